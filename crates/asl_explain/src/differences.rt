@@ -50,26 +50,46 @@ pub(crate) fn difference(
     outer: usize,
     who: &str,
 ) -> Result<Apart, OutOfMemory> {
-    let mut place = String::from_str(alloc, "$")?;
-    let mut pair = (inner, outer);
+    let mut text = String::from_str(alloc, "$")?;
+    let (told, lack) = lack_below(alloc, shapes, &mut text, (inner, outer), who)?;
+    text.push_str(&told)?;
+    Ok(Apart { text, lack })
+}
+
+/// What a value of the first shape of the pair may lack of the second on the first level where it may lack something; the
+/// steps down to there are put behind the place.
+fn lack_below(
+    alloc: Global,
+    shapes: &mut Shapes,
+    place: &mut String,
+    pair: (usize, usize),
+    who: &str,
+) -> Result<Told, OutOfMemory> {
+    let (mut inner, mut outer) = pair;
     for _ in 0..MOST_LEVELS {
-        if let Some((told, lack)) = lack_between(alloc, shapes, pair.0, pair.1, who)? {
-            place.push_str(&told)?;
-            return Ok(Apart { text: place, lack });
+        if let Some(told) = lack_between(alloc, shapes, inner, outer, who)? {
+            return Ok(told);
         }
-        let parts = parts_between(alloc, shapes, pair.0, pair.1)?;
-        let Some(part) = first_apart(shapes, parts)? else {
+        let Some(part) = part_apart(alloc, shapes, inner, outer)? else {
             break;
         };
         place.push_str(&part.step)?;
-        pair = (part.inner, part.outer);
+        inner = part.inner;
+        outer = part.outer;
     }
-    let wanted = noted(alloc, shapes, pair.1)?;
-    place.push_str(&format!(in alloc; " may not be what {who} wants, {wanted}")?)?;
-    Ok(Apart {
-        text: place,
-        lack: Lack::Other,
-    })
+    unnamed_lack(alloc, shapes, outer, who)
+}
+
+/// That a value may not be what is wanted, where it isn't known what it lacks.
+fn unnamed_lack(
+    alloc: Global,
+    shapes: &Shapes,
+    outer: usize,
+    who: &str,
+) -> Result<Told, OutOfMemory> {
+    let wanted = noted(alloc, shapes, outer)?;
+    let told = format!(in alloc; " may not be what {who} wants, {wanted}")?;
+    Ok((told, Lack::Other))
 }
 
 /// What a value of the first shape may lack of the second on its first level, if it may lack something there.
@@ -143,20 +163,29 @@ fn lack_of_object(
     wanted: &NodeObjects,
     who: &str,
 ) -> Result<Option<Told>, OutOfMemory> {
-    if let Some(lack) = absent_field(alloc, objects, wanted, who)? {
-        return Ok(Some(lack));
+    match absent_field(alloc, objects, wanted, who)? {
+        Some(lack) => Ok(Some(lack)),
+        None if wanted.extra => Ok(None),
+        None => surplus_of_object(alloc, shapes, objects, wanted, who),
     }
-    if wanted.extra {
-        return Ok(None);
+}
+
+/// What an object may have on its first level that isn't taken, where no other fields are taken.
+fn surplus_of_object(
+    alloc: Global,
+    shapes: &Shapes,
+    objects: &NodeObjects,
+    wanted: &NodeObjects,
+    who: &str,
+) -> Result<Option<Told>, OutOfMemory> {
+    match unwanted_field(alloc, shapes, objects, wanted, who)? {
+        Some(lack) => Ok(Some(lack)),
+        None if objects.extra => {
+            let told = format!(in alloc; " may have other fields, and {who} takes none")?;
+            Ok(Some((told, Lack::Surplus)))
+        }
+        None => Ok(None),
     }
-    if let Some(lack) = unwanted_field(alloc, shapes, objects, wanted, who)? {
-        return Ok(Some(lack));
-    }
-    if objects.extra {
-        let told = format!(in alloc; " may have other fields, and {who} takes none")?;
-        return Ok(Some((told, Lack::Surplus)));
-    }
-    Ok(None)
 }
 
 /// The first field that is wanted and may be absent.
@@ -227,6 +256,17 @@ fn lack_of_list(
         return Ok(Some((told, Lack::Other)));
     }
     Ok(None)
+}
+
+/// The first part of which both shapes say something and whose first shape isn't within its second.
+fn part_apart(
+    alloc: Global,
+    shapes: &mut Shapes,
+    inner: usize,
+    outer: usize,
+) -> Result<Option<Part>, OutOfMemory> {
+    let parts = parts_between(alloc, shapes, inner, outer)?;
+    first_apart(shapes, parts)
 }
 
 /// The parts of which both shapes say something.
