@@ -50,24 +50,40 @@ impl Explainer<'_> {
         many: usize,
         is_last: bool,
     ) -> Result<(), OutOfMemory> {
-        let Some(origin) = visit.arrival.origin else {
-            return if is_last {
-                push_step(text, &self.arrival_text(&visit.arrival)?)
-            } else {
-                Ok(())
-            };
-        };
-        let step = place.saturating_sub(1);
-        if is_told(step, many) {
-            push_step(text, &self.origin_text(origin)?)?;
-        } else if step == STEPS_AT_END {
-            let left_out = many.saturating_sub(2 * STEPS_AT_END);
-            push_step(text, &format!(in self.alloc; ".. {left_out} states ..")?)?;
+        if let Some(origin) = visit.arrival.origin {
+            self.push_origin(text, origin, place.saturating_sub(1), many)?;
         }
         if is_last {
-            push_step(text, &self.state_text(visit.arrival.state)?)?;
+            push_step(text, &self.end_text(&visit.arrival)?)
+        } else {
+            Ok(())
         }
-        Ok(())
+    }
+
+    /// Puts down the state that is left with the step of that number on a way of so many, or how many are left out.
+    fn push_origin(
+        &self,
+        text: &mut String,
+        origin: Origin,
+        step: usize,
+        many: usize,
+    ) -> Result<(), OutOfMemory> {
+        if is_told(step, many) {
+            push_step(text, &self.origin_text(origin)?)
+        } else if step == STEPS_AT_END {
+            let left_out = many.saturating_sub(2 * STEPS_AT_END);
+            push_step(text, &format!(in self.alloc; ".. {left_out} states ..")?)
+        } else {
+            Ok(())
+        }
+    }
+
+    /// What a way ends with: the state where it arrives, or the machine's input where it has no step.
+    fn end_text(&self, arrival: &Arrival) -> Result<String, OutOfMemory> {
+        match arrival.origin {
+            Some(_) => self.state_text(arrival.state),
+            None => self.arrival_text(arrival),
+        }
     }
 
     /// Where an arrival comes from.
