@@ -42,19 +42,40 @@ impl<'m> Explainer<'m> {
         walks: &mut Walks<'m>,
         located: &Located,
     ) -> Result<Option<Cause<'m>>, OutOfMemory> {
-        let Some(state) = self.machine.state_named(&located.finding.state) else {
-            return Ok(None);
-        };
-        if !is_about_data(located.finding.fault) {
-            return Ok(None);
+        match self.machine.state_named(&located.finding.state) {
+            Some(state) if is_about_data(located.finding.fault) => {
+                self.shortest_cause(shapes, walks, located, state)
+            }
+            Some(_) | None => Ok(None),
         }
-        if let Some(cause) = self.visited_cause(shapes, walks, located, state)? {
-            return Ok(Some(cause));
+    }
+
+    /// Data that comes to the state with which the rule is broken, by the shortest way that has some.
+    fn shortest_cause(
+        &self,
+        shapes: &mut Shapes,
+        walks: &mut Walks<'m>,
+        located: &Located,
+        state: usize,
+    ) -> Result<Option<Cause<'m>>, OutOfMemory> {
+        match self.visited_cause(shapes, walks, located, state)? {
+            Some(cause) => Ok(Some(cause)),
+            None => self.unvisited_cause(shapes, walks, located, state),
         }
-        if let Some(cause) = self.arriving_cause(shapes, walks, located, state)? {
-            return Ok(Some(cause));
+    }
+
+    /// Data that comes to the state with which the rule is broken, where it isn't with that of a visit.
+    fn unvisited_cause(
+        &self,
+        shapes: &mut Shapes,
+        walks: &mut Walks<'m>,
+        located: &Located,
+        state: usize,
+    ) -> Result<Option<Cause<'m>>, OutOfMemory> {
+        match self.arriving_cause(shapes, walks, located, state)? {
+            Some(cause) => Ok(Some(cause)),
+            None => self.joined_cause(shapes, walks, located, state),
         }
-        self.joined_cause(shapes, walks, located, state)
     }
 
     /// The first visit of the state with whose data the rule is broken.

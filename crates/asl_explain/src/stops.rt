@@ -32,10 +32,10 @@ pub(crate) fn stop_of(
     shapes: &Shapes,
     path: &DoubtfulPath,
 ) -> Result<Option<Stop>, OutOfMemory> {
-    let Some(segment) = path.path.segments().get(path.segment) else {
-        return Ok(None);
-    };
-    let Some(shape) = part_at(shapes, path.shape, path.path, path.segment) else {
+    let (Some(segment), Some(shape)) = (
+        path.path.segments().get(path.segment),
+        part_at(shapes, path.shape, path.path, path.segment),
+    ) else {
         return Ok(None);
     };
     Ok(Some(Stop {
