@@ -93,18 +93,33 @@ pub(crate) fn open(
     look: Look,
     title: &Label,
 ) -> Result<(), OutOfMemory> {
-    let id = cluster_id(alloc, cluster)?;
-    page.open(&format!(in alloc; "subgraph cluster_{id} {{")?)?;
-    let title = label_text(alloc, title)?;
-    let style = cluster_style(look);
-    page.push_line(&format!(in alloc; "graph [label=\"{title}\"{style}]")?)?;
+    page.open(&subgraph_line(alloc, cluster)?)?;
+    page.push_line(&title_line(alloc, look, title)?)?;
     match cluster {
-        Cluster::State(state) => {
-            page.push_line(&format!(in alloc; "in{state} [shape=point, style=invis]")?)?;
-            page.push_line(&format!(in alloc; "out{state} [shape=point, style=invis]")?)
-        }
+        Cluster::State(state) => push_points(alloc, page, state),
         Cluster::Branch(_, _) => Ok(()),
     }
+}
+
+/// The line that begins a cluster.
+fn subgraph_line(alloc: Global, cluster: Cluster) -> Result<String, OutOfMemory> {
+    let id = cluster_id(alloc, cluster)?;
+    Ok(format!(in alloc; "subgraph cluster_{id} {{")?)
+}
+
+/// The line of the title and the colours of a cluster.
+fn title_line(alloc: Global, look: Look, title: &Label) -> Result<String, OutOfMemory> {
+    let title = label_text(alloc, title)?;
+    let style = cluster_style(look);
+    Ok(format!(in alloc; "graph [label=\"{title}\"{style}]")?)
+}
+
+/// Puts down the two points of the cluster of a state: where lines to it end, and where those away from it begin.
+fn push_points(alloc: Global, page: &mut Page, state: usize) -> Result<(), OutOfMemory> {
+    for word in ["in", "out"] {
+        page.push_line(&format!(in alloc; "{word}{state} [shape=point, style=invis]")?)?;
+    }
+    Ok(())
 }
 
 /// The attributes of the colours of a cluster. A cluster inside another would else have that one's.
@@ -130,10 +145,20 @@ pub(crate) fn place(
     first: Point,
     last: Point,
 ) -> Result<(), OutOfMemory> {
+    page.push_line(&entry_line(alloc, state, first)?)?;
+    page.push_line(&exit_line(alloc, state, last)?)
+}
+
+/// The line from the upper point of the cluster of a state to a scope's first point, which isn't seen.
+fn entry_line(alloc: Global, state: usize, first: Point) -> Result<String, OutOfMemory> {
     let first = head_of(alloc, first)?;
+    Ok(format!(in alloc; "in{state} -> {first} [style=invis]")?)
+}
+
+/// The line from a scope's last point to the lower point of the cluster of a state, which isn't seen.
+fn exit_line(alloc: Global, state: usize, last: Point) -> Result<String, OutOfMemory> {
     let last = tail_of(alloc, last)?;
-    page.push_line(&format!(in alloc; "in{state} -> {first} [style=invis]")?)?;
-    page.push_line(&format!(in alloc; "{last} -> out{state} [style=invis]")?)
+    Ok(format!(in alloc; "{last} -> out{state} [style=invis]")?)
 }
 
 /// The line of an arrow.
@@ -144,37 +169,64 @@ pub(crate) fn arrow_line(
 ) -> Result<String, OutOfMemory> {
     let from = tail_of(alloc, arrow.from)?;
     let to = head_of(alloc, arrow.to)?;
+    let attributes = attributes_text(alloc, arrow, label)?;
+    Ok(format!(in alloc; "{from} -> {to}{attributes}")?)
+}
+
+/// The attributes of an arrow in brackets, as they stand behind it; nothing where it has none.
+fn attributes_text(alloc: Global, arrow: Arrow, label: &Label) -> Result<String, OutOfMemory> {
     let mut attributes = Vec::new(alloc);
+    push_attributes(alloc, &mut attributes, arrow, label)?;
+    if attributes.is_empty() {
+        Ok(String::new(alloc))
+    } else {
+        let attributes = attributes.join(alloc, ", ")?;
+        Ok(format!(in alloc; " [{attributes}]")?)
+    }
+}
+
+/// Puts down the attributes of an arrow.
+fn push_attributes(
+    alloc: Global,
+    attributes: &mut Vec<String>,
+    arrow: Arrow,
+    label: &Label,
+) -> Result<(), OutOfMemory> {
     if !label.lines().is_empty() {
-        let label = label_text(alloc, label)?;
-        attributes.push(format!(in alloc; "label=\"{label}\"")?)?;
+        attributes.push(label_attribute(alloc, label)?)?;
     }
     if arrow.is_dashed {
         attributes.push(String::from_str(alloc, "style=dashed")?)?;
     }
-    push_ends(alloc, &mut attributes, arrow)?;
-    if attributes.is_empty() {
-        return Ok(format!(in alloc; "{from} -> {to}")?);
-    }
-    let attributes = attributes.join(alloc, ", ")?;
-    Ok(format!(in alloc; "{from} -> {to} [{attributes}]")?)
+    push_ends(alloc, attributes, arrow)
+}
+
+/// The attribute with a label.
+fn label_attribute(alloc: Global, label: &Label) -> Result<String, OutOfMemory> {
+    let label = label_text(alloc, label)?;
+    Ok(format!(in alloc; "label=\"{label}\"")?)
 }
 
 /// Puts down the clusters that an arrow is to be cut off at. One from a cluster to itself stays inside.
 fn push_ends(alloc: Global, attributes: &mut Vec<String>, arrow: Arrow) -> Result<(), OutOfMemory> {
     match (arrow.from, arrow.to) {
-        (Point::Cluster(from), Point::Cluster(to)) if from == to => {}
-        (Point::Cluster(from), Point::Cluster(to)) => {
-            attributes.push(format!(in alloc; "ltail=cluster_s{from}")?)?;
-            attributes.push(format!(in alloc; "lhead=cluster_s{to}")?)?;
+        (Point::Cluster(from), Point::Cluster(to)) if from == to => Ok(()),
+        (from, to) => {
+            push_end(alloc, attributes, "ltail", from)?;
+            push_end(alloc, attributes, "lhead", to)
         }
-        (Point::Cluster(from), _) => {
-            attributes.push(format!(in alloc; "ltail=cluster_s{from}")?)?;
-        }
-        (_, Point::Cluster(to)) => {
-            attributes.push(format!(in alloc; "lhead=cluster_s{to}")?)?;
-        }
-        _ => {}
+    }
+}
+
+/// Puts down the cluster that an end of an arrow is to be cut off at, where it is one.
+fn push_end(
+    alloc: Global,
+    attributes: &mut Vec<String>,
+    name: &str,
+    end: Point,
+) -> Result<(), OutOfMemory> {
+    if let Point::Cluster(state) = end {
+        attributes.push(format!(in alloc; "{name}=cluster_s{state}")?)?;
     }
     Ok(())
 }
