@@ -51,24 +51,28 @@ impl Drawer<'_> {
         entered: &Entered,
         levels: usize,
     ) -> Result<Point, OutOfMemory> {
-        let start = Point::Start(entered.scope);
-        let label = Label::of(self.alloc, "Start")?;
-        picture.draw_point(start, Form::Circle, Look::Plain, &label)?;
+        self.draw_start(picture, entered.scope)?;
         for number in self.scopes.states_of(entered.scope) {
             self.draw_state(picture, *number, levels)?;
         }
         let last = self.draw_end(picture, entered.scope)?;
-        self.draw_entry(picture, entered)?;
-        self.draw_lines_in(picture, entered.scope)?;
+        self.draw_lines_in(picture, entered)?;
         Ok(last)
     }
 
-    /// Draws the lines that lead away from the states of a scope.
-    fn draw_lines_in(&self, picture: &mut Picture, scope: ScopeName) -> Result<(), OutOfMemory> {
-        for number in self.scopes.states_of(scope) {
-            self.draw_lines(picture, scope, *number)?;
+    /// Draws the lines of a scope: the one to its start state, and those that lead away from its states.
+    fn draw_lines_in(&self, picture: &mut Picture, entered: &Entered) -> Result<(), OutOfMemory> {
+        self.draw_entry(picture, entered)?;
+        for number in self.scopes.states_of(entered.scope) {
+            self.draw_lines(picture, entered.scope, *number)?;
         }
         Ok(())
+    }
+
+    /// Draws the Start of a scope.
+    fn draw_start(&self, picture: &mut Picture, scope: ScopeName) -> Result<(), OutOfMemory> {
+        let label = Label::of(self.alloc, "Start")?;
+        picture.draw_point(Point::Start(scope), Form::Circle, Look::Plain, &label)
     }
 
     /// Draws the End of a scope, if a state ends it. The answer is that point, or else the scope's Start.
@@ -117,20 +121,26 @@ impl Drawer<'_> {
         else {
             return Ok(());
         };
+        self.begin_state(picture, number, name, &state.kind)?;
         match &state.kind {
-            Kind::Parallel { branches } => {
-                let title = format!(in self.alloc; "{name} (Parallel)")?;
-                self.open(picture, number, &title)?;
-                self.draw_branches(picture, number, branches, levels)?;
-                self.close(picture, number)
-            }
-            Kind::Map { processor, .. } => {
-                let title = format!(in self.alloc; "{name} (Map, each item)")?;
-                self.open(picture, number, &title)?;
-                self.draw_items(picture, number, processor, levels)?;
-                self.close(picture, number)
-            }
-            kind => {
+            Kind::Parallel { branches } => self.draw_branches(picture, number, branches, levels),
+            Kind::Map { processor, .. } => self.draw_items(picture, number, processor, levels),
+            _ => Ok(()),
+        }
+    }
+
+    /// Draws the point of a state, or begins its cluster.
+    fn begin_state(
+        &self,
+        picture: &mut Picture,
+        number: usize,
+        name: &str,
+        kind: &Kind,
+    ) -> Result<(), OutOfMemory> {
+        match kind {
+            Kind::Parallel { .. } => self.open(picture, number, name, "Parallel"),
+            Kind::Map { .. } => self.open(picture, number, name, "Map, each item"),
+            _ => {
                 let (form, word) = form_of(kind);
                 let mut label = Label::of(self.alloc, name)?;
                 label.push(word)?;
@@ -139,7 +149,7 @@ impl Drawer<'_> {
         }
     }
 
-    /// Draws the branches of a Parallel.
+    /// Draws the branches of a Parallel, and ends its cluster.
     #[cycle(scope)]
     fn draw_branches(
         &self,
@@ -149,21 +159,15 @@ impl Drawer<'_> {
         levels: usize,
     ) -> Result<(), OutOfMemory> {
         for (branch, start) in branches.iter().enumerate() {
-            let cluster = Cluster::Branch(state, branch);
-            let place = branch.saturating_add(1);
-            let title = format!(in self.alloc; "branch {place}")?;
-            let title = Label::on_one_line(self.alloc, &title)?;
-            picture.open(cluster, Look::Plain, &title)?;
+            self.open_branch(picture, state, branch)?;
             let exit = Exit::Branch(branch);
             let last = self.draw_inside(picture, state, exit, start.number, levels)?;
-            picture.close(cluster, Look::Plain)?;
-            let scope = ScopeName::Inside { state, branch };
-            picture.place(state, Point::Start(scope), last)?;
+            close_branch(picture, state, branch, last)?;
         }
-        Ok(())
+        self.close(picture, state)
     }
 
-    /// Draws the processor of a Map.
+    /// Draws the processor of a Map, and ends its cluster.
     #[cycle(scope)]
     fn draw_items(
         &self,
@@ -174,7 +178,8 @@ impl Drawer<'_> {
     ) -> Result<(), OutOfMemory> {
         let last = self.draw_inside(picture, state, Exit::Items, processor.number, levels)?;
         let scope = ScopeName::Inside { state, branch: 0 };
-        picture.place(state, Point::Start(scope), last)
+        picture.place(state, Point::Start(scope), last)?;
+        self.close(picture, state)
     }
 
     /// Draws the scope of a state that an exit leads into. The answer is its last point.
@@ -203,9 +208,29 @@ impl Drawer<'_> {
         self.draw_scope(picture, &entered, levels)
     }
 
-    /// Begins the cluster of the state of that number.
-    fn open(&self, picture: &mut Picture, number: usize, title: &str) -> Result<(), OutOfMemory> {
-        let title = Label::on_one_line(self.alloc, title)?;
+    /// Begins the cluster of a branch of a Parallel.
+    fn open_branch(
+        &self,
+        picture: &mut Picture,
+        state: usize,
+        branch: usize,
+    ) -> Result<(), OutOfMemory> {
+        let place = branch.saturating_add(1);
+        let title = format!(in self.alloc; "branch {place}")?;
+        let title = Label::on_one_line(self.alloc, &title)?;
+        picture.open(Cluster::Branch(state, branch), Look::Plain, &title)
+    }
+
+    /// Begins the cluster of the state of that number, with its name and what it is.
+    fn open(
+        &self,
+        picture: &mut Picture,
+        number: usize,
+        name: &str,
+        what: &str,
+    ) -> Result<(), OutOfMemory> {
+        let title = format!(in self.alloc; "{name} ({what})")?;
+        let title = Label::on_one_line(self.alloc, &title)?;
         picture.open(Cluster::State(number), self.look_of(number), &title)
     }
 
@@ -254,6 +279,18 @@ impl Drawer<'_> {
             None => Ok(None),
         }
     }
+}
+
+/// Ends the cluster of a branch of a Parallel, and places its scope, which has that last point.
+fn close_branch(
+    picture: &mut Picture,
+    state: usize,
+    branch: usize,
+    last: Point,
+) -> Result<(), OutOfMemory> {
+    picture.close(Cluster::Branch(state, branch), Look::Plain)?;
+    let scope = ScopeName::Inside { state, branch };
+    picture.place(state, Point::Start(scope), last)
 }
 
 /// Whether a state of that type is drawn as a cluster.
