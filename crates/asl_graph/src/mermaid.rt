@@ -110,11 +110,18 @@ pub(crate) fn arrow_line(
     let from = id_of(alloc, arrow.from)?;
     let to = id_of(alloc, arrow.to)?;
     let sign = if arrow.is_dashed { "-.->" } else { "-->" };
+    let label = text_on_arrow(alloc, label)?;
+    Ok(format!(in alloc; "{from} {sign}{label} {to}")?)
+}
+
+/// The text of a label as it stands behind the sign of an arrow; nothing where the label is empty.
+fn text_on_arrow(alloc: Global, label: &Label) -> Result<String, OutOfMemory> {
     if label.lines().is_empty() {
-        return Ok(format!(in alloc; "{from} {sign} {to}")?);
+        Ok(String::new(alloc))
+    } else {
+        let label = label_text(alloc, label)?;
+        Ok(format!(in alloc; "|\"{label}\"|")?)
     }
-    let label = label_text(alloc, label)?;
-    Ok(format!(in alloc; "{from} {sign}|\"{label}\"| {to}")?)
 }
 
 /// The text of a label between quotes.
@@ -146,15 +153,23 @@ fn push_escaped(alloc: Global, text: &mut String, line: &str) -> Result<(), OutO
 
 /// The entity that stands for a character.
 fn entity(alloc: Global, character: char) -> Result<String, OutOfMemory> {
-    match character {
-        '"' => Ok(String::from_str(alloc, "#quot;")?),
-        '<' => Ok(String::from_str(alloc, "#lt;")?),
-        '>' => Ok(String::from_str(alloc, "#gt;")?),
-        '&' => Ok(String::from_str(alloc, "#amp;")?),
-        _ => {
+    match entity_name(character) {
+        Some(name) => Ok(format!(in alloc; "#{name};")?),
+        None => {
             let code = u32::from(character);
             Ok(format!(in alloc; "#{code};")?)
         }
+    }
+}
+
+/// The name of the entity that stands for a character, where it has one.
+fn entity_name(character: char) -> Option<&'static str> {
+    match character {
+        '"' => Some("quot"),
+        '<' => Some("lt"),
+        '>' => Some("gt"),
+        '&' => Some("amp"),
+        _ => None,
     }
 }
 

@@ -41,15 +41,29 @@ fn order_of(
     machine: &Machine,
     states: Option<&States<'_>>,
 ) -> Result<Vec<usize>, OutOfMemory> {
-    let count = machine.states();
-    let mut placed = Vec::with_capacity(alloc, count)?;
-    for number in 0..count {
+    let mut placed = placed_states(alloc, machine, states)?;
+    placed.sort_by_key(|state| state.token)?;
+    numbers_of(alloc, &placed)
+}
+
+/// The states of a machine in the order of their numbers, with their places in a text.
+fn placed_states(
+    alloc: Global,
+    machine: &Machine,
+    states: Option<&States<'_>>,
+) -> Result<Vec<Placed>, OutOfMemory> {
+    let mut placed = Vec::with_capacity(alloc, machine.states())?;
+    for number in 0..machine.states() {
         let token = token_of(machine, states, number);
         placed.push(Placed { token, number })?;
     }
-    placed.sort_by_key(|state| state.token)?;
-    let mut numbers = Vec::with_capacity(alloc, count)?;
-    for state in &placed {
+    Ok(placed)
+}
+
+/// The numbers of states, in the same order.
+fn numbers_of(alloc: Global, placed: &[Placed]) -> Result<Vec<usize>, OutOfMemory> {
+    let mut numbers = Vec::with_capacity(alloc, placed.len())?;
+    for state in placed {
         numbers.push(state.number)?;
     }
     Ok(numbers)

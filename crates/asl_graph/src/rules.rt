@@ -91,26 +91,24 @@ fn push_comparison(
     words: &mut ShortText,
 ) -> Result<(), OutOfMemory> {
     push_path(alloc, variable, words)?;
-    words.push_str(" ")?;
     words.push_str(sign_of(comparison))?;
-    words.push_str(" ")?;
     match operand {
         Operand::Constant(value) => words.push_str(&to_text(alloc, value)?),
         Operand::AtPath(path) => push_path(alloc, path, words),
     }
 }
 
-/// The sign of a comparison.
+/// The sign of a comparison, with a blank on each side.
 fn sign_of(comparison: Comparison) -> &'static str {
     match comparison {
         Comparison::String(relation) | Comparison::Numeric(relation) => match relation {
-            Relation::Equals => "==",
-            Relation::LessThan => "<",
-            Relation::GreaterThan => ">",
-            Relation::LessThanEquals => "<=",
-            Relation::GreaterThanEquals => ">=",
+            Relation::Equals => " == ",
+            Relation::LessThan => " < ",
+            Relation::GreaterThan => " > ",
+            Relation::LessThanEquals => " <= ",
+            Relation::GreaterThanEquals => " >= ",
         },
-        Comparison::BooleanEquals => "==",
+        Comparison::BooleanEquals => " == ",
     }
 }
 
@@ -123,8 +121,13 @@ fn push_match(
 ) -> Result<(), OutOfMemory> {
     push_path(alloc, variable, words)?;
     words.push_str(" matches ")?;
+    words.push_str(&pattern_text(alloc, pattern)?)
+}
+
+/// A pattern as a definition has it, in quotes.
+fn pattern_text(alloc: Global, pattern: &[PatternPart]) -> Result<String, OutOfMemory> {
     let text = String::from_utf8_lossy(alloc, &pattern_bytes(alloc, pattern)?)?;
-    words.push_str(&to_text(alloc, &Tree::Text(text))?)
+    to_text(alloc, &Tree::Text(text))
 }
 
 /// The bytes that spell a pattern: a star that stands for itself and a backslash behind a backslash.
