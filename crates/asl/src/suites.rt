@@ -6,7 +6,8 @@ use asl_diagnostics::rule_of_text;
 use asl_machine::Machine;
 use asl_records::Declared;
 use asl_suites::{
-    Case, CaseAnswers, Expected, Input as CaseInput, Mocks, SuiteRefusal, read_mocks, read_suite,
+    Case, CaseAnswers, Expected, Input as CaseInput, MockSource, Mocks, Suite, SuiteRefusal,
+    read_mocks, read_suite,
 };
 use asl_tool::{
     Closing, RunFault, TextFault, TextRefusal, closing, read_declared_text, read_definition,
@@ -58,35 +59,87 @@ struct MockFile {
 ///
 /// Refused: in words where one of these can't be read, or where a case has a name that the machine hasn't; OutOfMemory.
 pub(crate) fn load<R: Files + Input + AllocGlobal>(rt: &R, name: &str) -> Result<Loaded, Unfit> {
-    let alloc = rt.alloc();
-    let suite = match read_suite(alloc, tree_in(rt, name)?) {
-        Ok(suite) => suite,
-        Err(refusal) => return Err(unfit_suite(alloc, refusal)?),
-    };
-    let machine = match machine_of(rt, &beside(alloc, name, &suite.definition)?) {
-        Ok(machine) => machine,
-        Err(why) => return Err(at(alloc, "definition", why)?),
-    };
-    let declared = match &suite.declared {
-        Some(declared) => match declared_of(rt, &beside(alloc, name, declared)?) {
-            Ok(declared) => Some(declared),
-            Err(why) => return Err(at(alloc, "declared", why)?),
-        },
-        None => None,
-    };
-    let mocks = match &suite.mocks {
-        Some(source) => {
-            let path = beside(alloc, name, &source.file)?;
-            Some(mocks_in(rt, path, &source.state_machine)?)
-        }
-        None => None,
-    };
-    let cases = load_cases(rt, name, &machine, &mocks, suite.cases)?;
+    let suite = suite_in(rt, name)?;
+    let machine = machine_beside(rt, name, &suite.definition)?;
+    let declared = declared_beside(rt, name, &suite.declared)?;
+    let cases = cases_beside(rt, name, &machine, &suite.mocks, suite.cases)?;
     Ok(Loaded {
         machine,
         declared,
         cases,
     })
+}
+
+/// The suite that the text of a file stands for.
+///
+/// Refused: in words where it can't be read, or is no suite; OutOfMemory.
+fn suite_in<R: Files + Input + AllocGlobal>(rt: &R, name: &str) -> Result<Suite, Unfit> {
+    match read_suite(rt.alloc(), tree_in(rt, name)?) {
+        Ok(suite) => Ok(suite),
+        Err(refusal) => Err(unfit_suite(rt.alloc(), refusal)?),
+    }
+}
+
+/// The machine whose definition a suite names.
+///
+/// Refused: in words where its file can't be read, or is no definition; OutOfMemory.
+fn machine_beside<R: Files + Input + AllocGlobal>(
+    rt: &R,
+    suite: &str,
+    definition: &str,
+) -> Result<Machine, Unfit> {
+    match machine_of(rt, &beside(rt.alloc(), suite, definition)?) {
+        Ok(machine) => Ok(machine),
+        Err(why) => Err(at(rt.alloc(), "definition", why)?),
+    }
+}
+
+/// The declared shapes that a suite names, where it names some.
+///
+/// Refused: in words where their file can't be read, or isn't declared shapes; OutOfMemory.
+fn declared_beside<R: Files + Input + AllocGlobal>(
+    rt: &R,
+    suite: &str,
+    declared: &Option<String>,
+) -> Result<Option<Declared>, Unfit> {
+    let Some(declared) = declared else {
+        return Ok(None);
+    };
+    match declared_of(rt, &beside(rt.alloc(), suite, declared)?) {
+        Ok(declared) => Ok(Some(declared)),
+        Err(why) => Err(at(rt.alloc(), "declared", why)?),
+    }
+}
+
+/// The mocks that a suite names, where it names some.
+///
+/// Refused: in words where they can't be read; OutOfMemory.
+fn mocks_beside<R: Files + Input + AllocGlobal>(
+    rt: &R,
+    suite: &str,
+    mocks: &Option<MockSource>,
+) -> Result<Option<MockFile>, Unfit> {
+    match mocks {
+        Some(source) => {
+            let path = beside(rt.alloc(), suite, &source.file)?;
+            Ok(Some(mocks_in(rt, path, &source.state_machine)?))
+        }
+        None => Ok(None),
+    }
+}
+
+/// The cases of a suite, with the mocks that it names, as they can be played.
+///
+/// Refused: in words where the mocks can't be read, or a case can't be played; OutOfMemory.
+fn cases_beside<R: Files + Input + AllocGlobal>(
+    rt: &R,
+    suite: &str,
+    machine: &Machine,
+    mocks: &Option<MockSource>,
+    cases: Vec<Case>,
+) -> Result<Vec<LoadedCase>, Unfit> {
+    let mocks = mocks_beside(rt, suite, mocks)?;
+    load_cases(rt, suite, machine, &mocks, cases)
 }
 
 /// The cases of a suite, as they can be played.
@@ -102,15 +155,27 @@ fn load_cases<R: Files + Input + AllocGlobal>(
     let mut loaded = Vec::new(rt.alloc());
     for (number, case) in cases.into_iter().enumerate() {
         let case = load_case(rt, suite, number, mocks, case)?;
-        if let Some(mistake) = mistake_in(rt.alloc(), machine, &case.answers, &case.expected)? {
-            let place = place_of(rt.alloc(), number, "")?;
-            return Err(at(rt.alloc(), &place, Unfit::Why(mistake))?);
-        }
+        let case = without_mistake(rt.alloc(), number, machine, case)?;
         if loaded.push(case).is_err() {
             return Err(Unfit::OutOfMemory);
         }
     }
     Ok(loaded)
+}
+
+/// The case of that number, whose names are those of the machine.
+///
+/// Refused: in words where one isn't; OutOfMemory.
+fn without_mistake(
+    alloc: Global,
+    number: usize,
+    machine: &Machine,
+    case: LoadedCase,
+) -> Result<LoadedCase, Unfit> {
+    match mistake_in(alloc, machine, &case.answers, &case.expected)? {
+        Some(mistake) => Err(at_case(alloc, number, "", Unfit::Why(mistake))?),
+        None => Ok(case),
+    }
 }
 
 /// The case of that number, with its input and its answers.
@@ -157,16 +222,14 @@ fn input_of<R: Files + Input + AllocGlobal>(
     let path = beside(rt.alloc(), suite, &name)?;
     match tree_of(rt, &path) {
         Ok(tree) => Ok(tree),
-        Err(why) => {
-            let place = place_of(rt.alloc(), number, ".inputFile")?;
-            Err(at(rt.alloc(), &place, why)?)
-        }
+        Err(why) => Err(at_case(rt.alloc(), number, ".inputFile", why)?),
     }
 }
 
-/// The place in a suite of the case of that number, or of a field of it.
-fn place_of(alloc: Global, number: usize, field: &str) -> Result<String, OutOfMemory> {
-    Ok(format!(in alloc; "cases[{number}]{field}")?)
+/// The same with the place in the suite of the case of that number, or of a field of it, in front.
+fn at_case(alloc: Global, number: usize, field: &str, why: Unfit) -> Result<Unfit, OutOfMemory> {
+    let place = format!(in alloc; "cases[{number}]{field}")?;
+    at(alloc, &place, why)
 }
 
 impl MockFile {
@@ -325,15 +388,11 @@ fn at(alloc: Global, place: &str, why: Unfit) -> Result<Unfit, OutOfMemory> {
 /// The path of a file that a suite names: from the suite's own folder on, where it isn't from the root. None of them is
 /// standard input.
 fn beside(alloc: Global, suite: &str, name: &str) -> Result<String, OutOfMemory> {
-    let mut path = String::new(alloc);
-    if !name.starts_with('/') {
-        if let Some((folder, _)) = suite.rsplit_once('/') {
-            path.push_str(folder)?;
-            path.push_str("/")?;
-        } else if is_input(name) {
-            path.push_str("./")?;
-        }
-    }
-    path.push_str(name)?;
-    Ok(path)
+    let (folder, slash) = match suite.rsplit_once('/') {
+        _ if name.starts_with('/') => ("", ""),
+        Some((folder, _)) => (folder, "/"),
+        None if is_input(name) => (".", "/"),
+        None => ("", ""),
+    };
+    Ok(format!(in alloc; "{folder}{slash}{name}")?)
 }
