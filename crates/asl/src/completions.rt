@@ -49,15 +49,34 @@ fn completions_on<R: Print + AllocGlobal>(rt: &R, shell: Shell) -> Result<u8, Ru
 fn script(alloc: Global, shell: Shell) -> Result<String, OutOfMemory> {
     let mut program = program(alloc)?;
     program.build()?;
+    let names = names_of_commands(alloc, &program)?;
+    Ok(script_for(alloc, shell, &program, &names)?)
+}
+
+/// The names of a program's commands.
+fn names_of_commands<'a>(
+    alloc: Global,
+    program: &'a Command<'_>,
+) -> Result<Vec<&'a str>, AllocError> {
     let mut names = Vec::new(alloc);
     for command in program.get_subcommands() {
         names.push(command.get_name())?;
     }
-    Ok(match shell {
-        Shell::Bash => bash::script(alloc, &program, &names)?,
-        Shell::Zsh => zsh::script(alloc, &program, &names)?,
-        Shell::Fish => fish::script(alloc, &program, &names)?,
-    })
+    Ok(names)
+}
+
+/// The script for a shell and a program with commands of these names.
+fn script_for(
+    alloc: Global,
+    shell: Shell,
+    program: &Command<'_>,
+    commands: &[&str],
+) -> Result<String, AllocError> {
+    match shell {
+        Shell::Bash => bash::script(alloc, program, commands),
+        Shell::Zsh => zsh::script(alloc, program, commands),
+        Shell::Fish => fish::script(alloc, program, commands),
+    }
 }
 
 /// What a value of this argument may be, where the program has commands of these names.

@@ -34,25 +34,29 @@ const TAIL: &str = r#"    esac
 complete -o bashdefault -o default -F _asl asl
 "#;
 
-/// The script for a program with commands of these names. In front of a command's own case stand those of its options that
-/// have a value.
+/// The script for a program with commands of these names.
 pub(super) fn script(
     alloc: Global,
     program: &Command<'_>,
     commands: &[&str],
 ) -> Result<String, AllocError> {
     let mut text = String::from_str(alloc, HEAD)?;
-    for command in program.get_subcommands() {
-        push_command(&mut text, commands, command)?;
-    }
-    text.push_str("        \" \"*) options='")?;
-    push_options(&mut text, program)?;
-    push_words(&mut text, " values='", commands, "' ;;\n")?;
+    push_cases(&mut text, commands, program)?;
     text.push_str(TAIL)?;
     Ok(text)
 }
 
-/// Puts the cases of a command behind the text.
+/// Puts the cases of all commands behind the text, and the one where no command is there yet.
+fn push_cases(text: &mut String, commands: &[&str], program: &Command<'_>) -> Pushed {
+    for command in program.get_subcommands() {
+        push_command(text, commands, command)?;
+    }
+    text.push_str("        \" \"*) options='")?;
+    push_options(text, program)?;
+    push_words(text, " values='", commands, "' ;;\n")
+}
+
+/// Puts the cases of a command behind the text. In front of its own stand those of its options that have a value.
 fn push_command(text: &mut String, commands: &[&str], command: &Command<'_>) -> Pushed {
     let name = command.get_name();
     for argument in command.get_arguments() {

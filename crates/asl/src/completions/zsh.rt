@@ -50,22 +50,38 @@ pub(super) fn script(
     program: &Command<'_>,
     commands: &[&str],
 ) -> Result<String, AllocError> {
-    let mut text = String::from_str(alloc, HEAD)?;
-    push_arguments(&mut text, commands, program)?;
+    let mut text = String::new(alloc);
+    push_first_word(&mut text, commands, program)?;
+    push_other_words(&mut text, commands, program)?;
+    Ok(text)
+}
+
+/// Puts what is offered where no command is there yet behind the text: the options of the program, and the commands.
+fn push_first_word(text: &mut String, commands: &[&str], program: &Command<'_>) -> Pushed {
+    text.push_str(HEAD)?;
+    push_arguments(text, commands, program)?;
     text.push_str(COMMANDS)?;
-    push_names(&mut text, program)?;
+    push_names(text, program)
+}
+
+/// Puts what is offered behind each command behind the text, and the end of the script.
+fn push_other_words(text: &mut String, commands: &[&str], program: &Command<'_>) -> Pushed {
     text.push_str(ARGUMENTS)?;
     for command in program.get_subcommands() {
-        let name = command.get_name();
-        write!(
-            text,
-            "                {name})\n                    _arguments"
-        )?;
-        push_arguments(&mut text, commands, command)?;
-        text.push_str("\n                    ;;\n")?;
+        push_case(text, commands, command)?;
     }
-    text.push_str(TAIL)?;
-    Ok(text)
+    text.push_str(TAIL)
+}
+
+/// Puts the case of a command behind the text.
+fn push_case(text: &mut String, commands: &[&str], command: &Command<'_>) -> Pushed {
+    let name = command.get_name();
+    write!(
+        text,
+        "                {name})\n                    _arguments"
+    )?;
+    push_arguments(text, commands, command)?;
+    text.push_str("\n                    ;;\n")
 }
 
 /// Puts the names of the commands, each with what it does, behind the text.
@@ -105,13 +121,18 @@ fn push_option(text: &mut String, commands: &[&str], argument: &Arg<'_>) -> Push
         write!(text, "-{short}")?;
         push_meaning(text, commands, argument)?;
     }
-    if let Some(long) = argument.get_long() {
-        push_names_of(text, argument)?;
-        write!(text, "--{long}")?;
-        text.push_str(if has_value(argument) { "=" } else { "" })?;
-        push_meaning(text, commands, argument)?;
+    match argument.get_long() {
+        Some(long) => push_long(text, commands, argument, long),
+        None => Ok(()),
     }
-    Ok(())
+}
+
+/// Puts an option under its long name behind the text.
+fn push_long(text: &mut String, commands: &[&str], argument: &Arg<'_>, long: &str) -> Pushed {
+    let sign = if has_value(argument) { "=" } else { "" };
+    push_names_of(text, argument)?;
+    write!(text, "--{long}{sign}")?;
+    push_meaning(text, commands, argument)
 }
 
 /// Puts the names of an option behind the text, of which none is offered any more where one is given.
