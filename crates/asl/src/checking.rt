@@ -4,7 +4,7 @@ use crate::command_line::TextFiles;
 use crate::endings::finish_with;
 use crate::files::{file_text, input_source};
 use crate::printing::print_verdict;
-use asl_tool::{Closing, RunFault, ToWrite};
+use asl_tool::{Closing, RunFault, ToWrite, Verdict};
 use std::io;
 use std::rt::Files;
 
@@ -40,13 +40,23 @@ fn verdict_on<R: Files + Input + Print + AllocGlobal>(
     rt: &R,
     files: &TextFiles<'_>,
 ) -> Result<Closing, RunFault> {
+    let verdict = verdict_of(rt, files)?;
+    print_verdict(rt, &verdict)?;
+    Ok(Closing::Verdict(verdict))
+}
+
+/// The verdict on the texts in three files.
+///
+/// Refused as [`verdict_on`] is, but for Write.
+fn verdict_of<R: Files + Input + AllocGlobal>(
+    rt: &R,
+    files: &TextFiles<'_>,
+) -> Result<Verdict, RunFault> {
     let definition = file_text(rt, files.definition)?;
     let declared = file_text(rt, files.declared)?;
     let certificate = file_text(rt, files.certificate)?;
-    let verdict = match asl_tool::verify_texts(rt.alloc(), &definition, &declared, &certificate) {
-        Ok(verdict) => verdict,
-        Err(refusal) => return Err(RunFault::Text(refusal)),
-    };
-    print_verdict(rt, &verdict)?;
-    Ok(Closing::Verdict(verdict))
+    match asl_tool::verify_texts(rt.alloc(), &definition, &declared, &certificate) {
+        Ok(verdict) => Ok(verdict),
+        Err(refusal) => Err(RunFault::Text(refusal)),
+    }
 }

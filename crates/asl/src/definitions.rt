@@ -36,7 +36,7 @@ pub(crate) fn definition_paths<R: Files + AllocGlobal + Clone + Drop>(
         if !is_input(name) && is_folder(rt, name) {
             add_folder(rt, name, &mut found, report)?;
         } else {
-            found.paths.push(String::from_str(rt.alloc(), name)?)?;
+            push_path(&mut found.paths, name)?;
         }
     }
     found.paths.sort()?;
@@ -58,7 +58,7 @@ fn add_folder<R: Files + AllocGlobal + Clone + Drop>(
 ) -> Result<(), OutOfMemory> {
     let paths = found.paths.len();
     let unread = report.unread();
-    found.folders.push(String::from_str(rt.alloc(), folder)?)?;
+    push_path(&mut found.folders, folder)?;
     add_below(rt, found, report)?;
     if found.paths.len() == paths && report.unread() == unread {
         report.add_unread(folder, "no file *.asl.json is below it")?;
@@ -119,10 +119,18 @@ fn add_entry<R: Files + AllocGlobal>(
         Err(error) => return note(rt, path, error, report),
     };
     if kind.is_dir() {
-        found.folders.push(String::from_str(rt.alloc(), path)?)?;
+        push_path(&mut found.folders, path)
     } else if path.ends_with(ENDING) && may_be_read(rt, path, kind) {
-        found.paths.push(String::from_str(rt.alloc(), path)?)?;
+        push_path(&mut found.paths, path)
+    } else {
+        Ok(())
     }
+}
+
+/// Puts a path behind the others.
+fn push_path(paths: &mut Vec<String>, path: &str) -> Result<(), OutOfMemory> {
+    let alloc = *paths.allocator();
+    paths.push(String::from_str(alloc, path)?)?;
     Ok(())
 }
 

@@ -3,7 +3,7 @@
 use crate::command_line::LintRequest;
 use crate::definitions::definition_paths;
 use crate::endings::finish;
-use crate::files::{is_input, text_or_why};
+use crate::files::{Unread, is_input, text_or_why};
 use crate::inferring::ROUNDS;
 use crate::printing::print_text;
 use crate::reports::{Report, Told};
@@ -65,8 +65,7 @@ fn lint_under<R: Files + Input + AllocGlobal>(
     for path in paths {
         if let Some(text) = text_of(rt, path, report)? {
             let definition = File { path, text: &text };
-            let shapes = file_of(declared, &shapes);
-            report.add_checked(lint(rt.alloc(), definition, shapes, ROUNDS)?)?;
+            check(rt.alloc(), definition, file_of(declared, &shapes), report)?;
         }
     }
     Ok(())
@@ -81,14 +80,32 @@ fn lint_each<R: Files + Input + AllocGlobal>(
 ) -> Result<(), OutOfMemory> {
     for path in paths {
         if let Some(text) = text_of(rt, path, report)? {
-            let declared = name_beside(rt.alloc(), path)?;
-            let shapes = text_beside(rt, path, &declared, report)?;
-            let definition = File { path, text: &text };
-            let shapes = file_of(&declared, &shapes);
-            report.add_checked(lint(rt.alloc(), definition, shapes, ROUNDS)?)?;
+            lint_beside(rt, File { path, text: &text }, report)?;
         }
     }
     Ok(())
+}
+
+/// Checks a definition under the shapes in the file beside it.
+fn lint_beside<R: Files + Input + AllocGlobal>(
+    rt: &R,
+    definition: File<'_>,
+    report: &mut Report,
+) -> Result<(), OutOfMemory> {
+    let declared = name_beside(rt.alloc(), definition.path)?;
+    let shapes = text_beside(rt, definition.path, &declared, report)?;
+    check(rt.alloc(), definition, file_of(&declared, &shapes), report)
+}
+
+/// Checks a definition under the shapes in a file, or its structure alone.
+fn check(
+    alloc: Global,
+    definition: File<'_>,
+    shapes: Option<File<'_>>,
+    report: &mut Report,
+) -> Result<(), OutOfMemory> {
+    let linted = lint(alloc, definition, shapes, ROUNDS)?;
+    report.add_checked(linted)
 }
 
 /// The text of a file with its path, where there is one.
@@ -136,18 +153,44 @@ fn text_beside<R: Files + Input + AllocGlobal>(
 ) -> Result<Option<Vec<u8>>, OutOfMemory> {
     if is_input(path) {
         report.add_undeclared(path)?;
-        return Ok(None);
-    }
-    if is_device(rt, declared) {
+        Ok(None)
+    } else if is_device(rt, declared) {
         report.add_unread(declared, "is no file")?;
-        return Ok(None);
+        Ok(None)
+    } else {
+        declared_text(rt, path, declared, report)
     }
+}
+
+/// The text of the file with the declared shapes of a definition; where there is none, or it can't be read, that is noted.
+fn declared_text<R: Files + Input + AllocGlobal>(
+    rt: &R,
+    path: &str,
+    declared: &str,
+    report: &mut Report,
+) -> Result<Option<Vec<u8>>, OutOfMemory> {
     match text_or_why(rt, declared) {
-        Ok(text) => return Ok(Some(text)),
-        Err(why) if why.is_absence() => report.add_undeclared(path)?,
-        Err(why) => report.add_unread(declared, &why.words(rt.alloc())?)?,
+        Ok(text) => Ok(Some(text)),
+        Err(why) => {
+            note_lack(rt.alloc(), path, declared, &why, report)?;
+            Ok(None)
+        }
     }
-    Ok(None)
+}
+
+/// Notes that a definition has no declared shapes, where their file isn't there, or that this can't be read.
+fn note_lack(
+    alloc: Global,
+    path: &str,
+    declared: &str,
+    why: &Unread,
+    report: &mut Report,
+) -> Result<(), OutOfMemory> {
+    if why.is_absence() {
+        report.add_undeclared(path)
+    } else {
+        report.add_unread(declared, &why.words(alloc)?)
+    }
 }
 
 /// Whether something stands at a path that is neither a file nor a folder, as a pipe, which may never end.

@@ -79,10 +79,8 @@ impl Report {
         self.is_partial = true;
         self.unread = self.unread.saturating_add(1);
         let alloc = *self.undeclared.allocator();
-        self.notes.push_str(&in_line(alloc, path)?)?;
-        self.notes.push_str(": ")?;
-        self.notes.push_str(why)?;
-        self.notes.push_str("\n")?;
+        let path = in_line(alloc, path)?;
+        write!(self.notes, "{path}: {why}\n")?;
         Ok(())
     }
 
@@ -99,9 +97,7 @@ impl Report {
         format: Format,
         deny_warnings: bool,
     ) -> Result<Told, OutOfMemory> {
-        let mut diagnostics = self.diagnostics;
-        sort(&mut diagnostics)?;
-        let diagnostics = without_repeats(alloc, diagnostics)?;
+        let diagnostics = in_order(alloc, self.diagnostics)?;
         let counts = Counts::of(&diagnostics);
         let mut notes = self.notes;
         push_undeclared(alloc, &mut notes, &self.undeclared)?;
@@ -129,14 +125,10 @@ impl Counts {
 
     /// The last line on standard error, with its break.
     fn line(&self, alloc: Global, checked: usize) -> Result<String, OutOfMemory> {
-        let mut line = String::new(alloc);
-        push_count(alloc, &mut line, self.errors, "error")?;
-        line.push_str(", ")?;
-        push_count(alloc, &mut line, self.warnings, "warning")?;
-        line.push_str(" in ")?;
-        push_count(alloc, &mut line, checked, "definition")?;
-        line.push_str("\n")?;
-        Ok(line)
+        let errors = counted(alloc, self.errors, "error")?;
+        let warnings = counted(alloc, self.warnings, "warning")?;
+        let definitions = counted(alloc, checked, "definition")?;
+        Ok(format!(in alloc; "{errors}, {warnings} in {definitions}\n")?)
     }
 
     /// The exit status: 2 where something couldn't be read, 1 where there is an error, or a warning that weighs as much.
@@ -151,21 +143,10 @@ impl Counts {
     }
 }
 
-/// Puts a number and what is counted, in the plural where it isn't one, behind the text.
-fn push_count(
-    alloc: Global,
-    text: &mut String,
-    count: usize,
-    what: &str,
-) -> Result<(), OutOfMemory> {
-    let digits = count.to_string(alloc)?;
-    text.push_str(&digits)?;
-    text.push_str(" ")?;
-    text.push_str(what)?;
-    if count != 1 {
-        text.push_str("s")?;
-    }
-    Ok(())
+/// A number and what is counted, in the plural where it isn't one.
+fn counted(alloc: Global, count: usize, what: &str) -> Result<String, OutOfMemory> {
+    let ending = if count == 1 { "" } else { "s" };
+    Ok(format!(in alloc; "{count} {what}{ending}")?)
 }
 
 /// Puts the line on definitions without declared shapes behind the text, where there are any.
@@ -173,18 +154,28 @@ fn push_undeclared(alloc: Global, text: &mut String, paths: &[String]) -> Result
     match paths {
         [] => {}
         [path] => {
-            text.push_str(&in_line(alloc, path)?)?;
-            text.push_str(": no shapes are declared for it, so its structure alone is checked\n")?;
+            let path = in_line(alloc, path)?;
+            write!(
+                text,
+                "{path}: no shapes are declared for it, so its structure alone is checked\n"
+            )?;
         }
         _ => {
-            let digits = paths.len().to_string(alloc)?;
-            text.push_str(&digits)?;
-            text.push_str(
-                " definitions have no declared shapes, so their structure alone is checked\n",
+            let count = paths.len();
+            write!(
+                text,
+                "{count} definitions have no declared shapes, so their structure alone is checked\n"
             )?;
         }
     }
     Ok(())
+}
+
+/// The diagnostics in one order, each once.
+fn in_order(alloc: Global, diagnostics: Vec<Diagnostic>) -> Result<Vec<Diagnostic>, OutOfMemory> {
+    let mut diagnostics = diagnostics;
+    sort(&mut diagnostics)?;
+    without_repeats(alloc, diagnostics)
 }
 
 /// The diagnostics, without those that say at one place what one before says there.

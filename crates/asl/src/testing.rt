@@ -110,17 +110,11 @@ impl Tests {
     ) -> Result<(), OutOfMemory> {
         let suite = in_line(alloc, suite)?;
         let case = quoted(alloc, case)?;
+        let others = names_in_row(alloc, cases)?;
         write!(
             self.absences,
-            "{suite}: there is no case {case}: its cases are "
+            "{suite}: there is no case {case}: its cases are {others}\n"
         )?;
-        for (place, other) in cases.iter().enumerate() {
-            if place > 0 {
-                self.absences.push_str(", ")?;
-            }
-            self.absences.push_str(&quoted(alloc, &other.name)?)?;
-        }
-        self.absences.push_str("\n")?;
         Ok(())
     }
 
@@ -134,6 +128,15 @@ impl Tests {
             1
         }
     }
+}
+
+/// The names of cases in quotes, in a row.
+fn names_in_row(alloc: Global, cases: &[LoadedCase]) -> Result<String, OutOfMemory> {
+    let mut names = Vec::new(alloc);
+    for case in cases {
+        names.push(quoted(alloc, &case.name)?)?;
+    }
+    Ok(names.join(alloc, ", ")?)
 }
 
 /// Whether all cases of a suite have passed.
