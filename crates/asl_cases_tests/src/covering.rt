@@ -4,7 +4,7 @@ use crate::telling::told_lacking;
 
 #[test]
 fn choices(rt: HostRuntime) {
-    let vectors = [
+    let vectors = &[
         (
             "[]",
             r#""A" (a Choice) is never entered
@@ -48,7 +48,7 @@ fn choices(rt: HostRuntime) {
             "",
         ),
     ];
-    for (suite, lines) in vectors {
+    for &(suite, lines) in vectors {
         assert_eq!(rt;
             told_lacking(&rt, rt.alloc(), CHOICE, suite).as_str(),
             lines

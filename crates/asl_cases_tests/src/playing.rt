@@ -82,7 +82,7 @@ fn steps(rt: HostRuntime) {
     );
     // To enter the state is a step, and so is to answer its task.
     let task = r#"[{"name":"a","input":1,"answers":{"T":[{"Return":2}]},"expect":{"output":2}}]"#;
-    for (steps, line) in [
+    for &(steps, line) in &[
         (0, "a: the run has not ended after 0 steps\n"),
         (1, "a: the run has not ended after 1 steps\n"),
         (2, "a: ok\n"),

@@ -31,7 +31,7 @@ fn answer(rt: &impl Abort, alloc: Global, text: &str, input: &Tree) -> String {
 #[test]
 fn rules(rt: HostRuntime) {
     let alloc = rt.alloc();
-    let vectors = [
+    let vectors = &[
         (r#"{"Variable":"$.a","IsNull":true,"Next":"B"}"#, "B"),
         (
             r#"{"And":[{"Variable":"$.a","IsNull":true}],"Next":"B","Comment":"c"}"#,
@@ -100,7 +100,7 @@ fn rules(rt: HostRuntime) {
             "NextInside",
         ),
     ];
-    for (text, wanted) in vectors {
+    for &(text, wanted) in vectors {
         let next = next_in(&rt, alloc, text);
         assert_eq!(rt; next.as_str(), wanted, "at {text}");
     }
@@ -109,7 +109,7 @@ fn rules(rt: HostRuntime) {
 #[test]
 fn truths(rt: HostRuntime) {
     let alloc = rt.alloc();
-    let vectors = [
+    let vectors = &[
         (
             r#""Or":[{"Variable":"$.k","IsPresent":false},{"Variable":"$.k","StringEquals":"x"}]"#,
             "{}",
@@ -208,7 +208,7 @@ fn truths(rt: HostRuntime) {
             "false",
         ),
     ];
-    for (test, input, wanted) in vectors {
+    for &(test, input, wanted) in vectors {
         let text = format!(in alloc; "{{{test},\"Next\":\"B\"}}").expect(&rt, "memory");
         let answer = answer(
             &rt,

@@ -46,7 +46,7 @@ fn nested(rt: &impl Abort, alloc: Global, depth: usize) -> String {
 #[test]
 fn calls(rt: HostRuntime) {
     let alloc = rt.alloc();
-    let vectors = [
+    let vectors = &[
         ("States.Array()", "Array([])"),
         ("States.Array(  )", "Array([])"),
         (
@@ -100,7 +100,7 @@ fn calls(rt: HostRuntime) {
         ("States.Array($$.Map.Item.Value[*])", "BadPath"),
         ("States.Array($$)", "BadPath"),
     ];
-    for (text, wanted) in vectors {
+    for &(text, wanted) in vectors {
         let call = call_in(&rt, alloc, text, true);
         assert_eq!(rt; call.as_str(), wanted, "at {text}");
     }
@@ -123,7 +123,7 @@ fn values(rt: HostRuntime) {
         br#"{"x":{"y":2},"f":"\\{}","l":[1,[]],"a b":true,"n":7}"#,
     )
     .expect(&rt, "a tree");
-    let vectors = [
+    let vectors = &[
         (
             "States.Array( 1 , null,true,$.x)",
             r#"[1,null,true,{"y":2}]"#,
@@ -170,11 +170,11 @@ fn values(rt: HostRuntime) {
         index: 3,
         value: &third,
     };
-    for (text, wanted) in vectors {
+    for &(text, wanted) in vectors {
         let value = value_of(&rt, alloc, text, &input, Some(item));
         assert_eq!(rt; value.as_str(), wanted, "at {text}");
     }
-    for text in [
+    for &text in &[
         "States.Array($$.Map.Item.Index)",
         "States.Array($$.Map.Item.Value)",
     ] {

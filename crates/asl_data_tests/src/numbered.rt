@@ -73,7 +73,7 @@ fn one_shape(rt: HostRuntime) {
         assert_eq!(rt; shapes.sub(first, second).expect(&rt, "an answer"), None);
         assert_eq!(rt; shapes.join(first, second).expect(&rt, "a number"), None);
     }
-    for (number, wanted) in [
+    for &(number, wanted) in &[
         (0, r#"Some(Int) Some(true) {"type":"integer"}"#),
         (1, "None None none"),
     ] {

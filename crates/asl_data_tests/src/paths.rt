@@ -40,7 +40,7 @@ fn with_nine(rt: &impl Abort, alloc: Global, tree: &[u8], text: &str) -> String 
 #[test]
 fn paths(rt: HostRuntime) {
     let alloc = rt.alloc();
-    let vectors = [
+    let vectors = &[
         ("$", "[]"),
         ("$['a b'].c[0]", r#"[Name("a b"), Name("c"), Index(0)]"#),
         ("$['x']", r#"[Name("x")]"#),
@@ -70,13 +70,13 @@ fn paths(rt: HostRuntime) {
         ("$[1,2]", "LeftOut(1)"),
         ("$.a b:c", "LeftOut(3)"),
     ];
-    for (text, wanted) in vectors {
+    for &(text, wanted) in vectors {
         let answer = steps(&rt, alloc, parse(alloc, text));
         assert_eq!(rt; answer.as_str(), wanted, "at {text}");
     }
 
     let tree = read(alloc, br#"{"a":[1,{"b":null}],"":2}"#).expect(&rt, "a tree");
-    let nodes = [
+    let nodes = &[
         ("$", r#"{"":2,"a":[1,{"b":null}]}"#),
         ("$.a[0]", "1"),
         ("$.a[1].b", "null"),
@@ -86,12 +86,12 @@ fn paths(rt: HostRuntime) {
         ("$[0]", "nothing"),
         ("$.a[1].b.c", "nothing"),
     ];
-    for (text, wanted) in nodes {
+    for &(text, wanted) in nodes {
         let answer = named(&rt, alloc, &tree, text);
         assert_eq!(rt; answer.as_str(), wanted, "at {text}");
     }
 
-    let forms = [
+    let forms = &[
         ("$", "$"),
         ("$['a b'].c[0]", "$['a b'].c[0]"),
         ("$['x']", "$.x"),
@@ -99,11 +99,11 @@ fn paths(rt: HostRuntime) {
         (r#"$["x y"]['']"#, "$['x y']['']"),
         ("$['é'][4294967295]", "$.é[4294967295]"),
     ];
-    for (text, wanted) in forms {
+    for &(text, wanted) in forms {
         let answer = print(alloc, &parse(alloc, text).expect(&rt, "a path")).expect(&rt, "a text");
         assert_eq!(rt; answer.as_str(), wanted, "at {text}");
     }
-    let placings = [
+    let placings = &[
         ("$", "9"),
         ("$.a", r#"{"a":9}"#),
         ("$.a[1]", r#"{"a":[1,9]}"#),
@@ -116,7 +116,7 @@ fn paths(rt: HostRuntime) {
         ("$[0]", r#"CannotPlace {"a":[1,2]} 9"#),
         ("$.a[0].b", r#"CannotPlace {"a":[1,2]} 9"#),
     ];
-    for (text, wanted) in placings {
+    for &(text, wanted) in placings {
         let answer = with_nine(&rt, alloc, br#"{"a":[1,2]}"#, text);
         assert_eq!(rt; answer.as_str(), wanted, "at {text}");
     }

@@ -66,7 +66,7 @@ const LONG: usize = 300_000;
 #[test]
 fn declared_shapes(rt: HostRuntime) {
     let alloc = rt.alloc();
-    let vectors = [
+    let vectors = &[
         (
             r#"{"input":{"type":"integer"},"tasks":{}}"#,
             r#"{"input":{"type":"integer"},"tasks":{}}"#,
@@ -81,7 +81,7 @@ fn declared_shapes(rt: HostRuntime) {
             r#"{"input":{"type":["null","string"]},"tasks":{"T":{"gives":{"items":{"type":["boolean","integer"]},"type":"array"},"takes":{"type":"object"}}}}"#,
         ),
     ];
-    for (text, wanted) in vectors {
+    for &(text, wanted) in vectors {
         let (written, declared, again) = declared_in(&rt, alloc, text);
         assert_eq!(rt; written.as_str(), wanted);
         assert_eq!(rt; again, declared);
@@ -93,7 +93,7 @@ fn certificates(rt: HostRuntime) {
     let alloc = rt.alloc();
     let branches =
         r#"{"output":{"items":false,"minItems":2,"prefixItems":[{"type":"integer"},{"type":"string"}],"type":"array"},"states":{"P":{"branches":[{"type":"integer"},{"type":"string"}],"input":{"type":"integer"},"output":{"items":false,"minItems":2,"prefixItems":[{"type":"integer"},{"type":"string"}],"type":"array"}},"T0":{"input":{"type":"integer"},"output":{"type":"integer"}},"T1":{"input":{"type":"integer"},"output":{"type":"string"}}},"version":1}"#;
-    let vectors = [
+    let vectors = &[
         (
             r#"{"version":1,"output":{"type":"integer"},"states":{"A":{"input":{"type":"integer"},"output":{"type":"integer"}}}}"#,
             r#"{"output":{"type":"integer"},"states":{"A":{"input":{"type":"integer"},"output":{"type":"integer"}}},"version":1}"#,
@@ -136,7 +136,7 @@ fn certificates(rt: HostRuntime) {
             r#"{"output":{"items":{"type":["null","string"]},"type":["array","integer"]},"states":{},"version":2}"#,
         ),
     ];
-    for (text, wanted) in vectors {
+    for &(text, wanted) in vectors {
         let (written, certificate, again) = certificate_in(&rt, alloc, text);
         assert_eq!(rt; written.as_str(), wanted);
         assert_eq!(rt; again, certificate);
@@ -153,7 +153,7 @@ fn refusal_of(rt: &impl Abort, alloc: Global, text: &str) -> String {
 #[test]
 fn wrong_references(rt: HostRuntime) {
     let alloc = rt.alloc();
-    let vectors = [
+    let vectors = &[
         (
             r#"{"version":1,"shapes":[{"type":"array","items":{"shape":0}}],"output":true,"states":{}}"#,
             r#"Record(RecordRefusal { fault: BadNumber, name: "", field: "shapes" })"#,
@@ -175,7 +175,7 @@ fn wrong_references(rt: HostRuntime) {
             r#"Record(RecordRefusal { fault: WrongKind, name: "", field: "shapes" })"#,
         ),
     ];
-    for (text, wanted) in vectors {
+    for &(text, wanted) in vectors {
         assert_eq!(rt; refusal_of(&rt, alloc, text).as_str(), wanted);
     }
 }
@@ -183,7 +183,7 @@ fn wrong_references(rt: HostRuntime) {
 #[test]
 fn versions(rt: HostRuntime) {
     let alloc = rt.alloc();
-    let vectors = [
+    let vectors = &[
         (
             r#"{"version":1,"output":{"type":["integer","string"]},"states":{}}"#,
             r#"Record(RecordRefusal { fault: BadShape(BadType), name: "", field: "output" })"#,
@@ -217,7 +217,7 @@ fn versions(rt: HostRuntime) {
             r#"Record(RecordRefusal { fault: BadVersion, name: "", field: "version" })"#,
         ),
     ];
-    for (text, wanted) in vectors {
+    for &(text, wanted) in vectors {
         assert_eq!(rt; refusal_of(&rt, alloc, text).as_str(), wanted);
     }
 }
@@ -225,7 +225,7 @@ fn versions(rt: HostRuntime) {
 #[test]
 fn listed_shapes(rt: HostRuntime) {
     let alloc = rt.alloc();
-    let vectors = [
+    let vectors = &[
         (
             r#"{"version":1,"output":{"type":"integer"},"states":{"A":{"input":{"type":"integer"},"output":true}}}"#,
             r#"{"output":{"type":"integer"},"states":{"A":{"input":{"type":"integer"},"output":true}},"version":1}"#,
@@ -251,7 +251,7 @@ fn listed_shapes(rt: HostRuntime) {
             r#"{"output":{"shape":0},"shapes":[{"type":"array"}],"states":{},"version":1}"#,
         ),
     ];
-    for (text, wanted) in vectors {
+    for &(text, wanted) in vectors {
         assert_eq!(rt; listed_in(&rt, alloc, text).as_str(), wanted);
     }
 }

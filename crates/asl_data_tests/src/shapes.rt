@@ -810,7 +810,7 @@ fn simple_part(rt: &impl Abort, alloc: Global, text: &str) -> String {
 #[test]
 fn shapes_are_taken_apart(rt: HostRuntime) {
     let alloc = rt.alloc();
-    for (text, wanted) in [
+    for &(text, wanted) in &[
         ("true", "every tree"),
         ("false", "false"),
         (r#"{"type":"array"}"#, "false"),

@@ -40,7 +40,7 @@ fn evaluated(
 #[test]
 fn templates(rt: HostRuntime) {
     let alloc = rt.alloc();
-    let vectors: [(&[u8], &[u8], &str); 20] = [
+    let vectors: &[(&[u8], &[u8], &str)] = &[
         (
             br#"{"a":[{"b.$":"$.x"}],"c":"$.x"}"#,
             br#"{"x":1}"#,
@@ -94,7 +94,7 @@ fn templates(rt: HostRuntime) {
         (br#"{"x.$":1,"y":9223372036854775808}"#, b"{}", "NotWhole"),
         (b"1e2", b"{}", "NotWhole"),
     ];
-    for (spelling, input, wanted) in vectors {
+    for &(spelling, input, wanted) in vectors {
         let answer = answered(&rt, alloc, spelling, false, input, None);
         assert_eq!(rt; answer.as_str(), wanted);
     }
@@ -104,7 +104,7 @@ fn templates(rt: HostRuntime) {
         index: 3,
         value: &value,
     });
-    let with_item: [(&[u8], &str, &str); 7] = [
+    let with_item: &[(&[u8], &str, &str)] = &[
         (
             br#"{"x.$":"States.Array($$.Map.Item.Index)"}"#,
             r#"{"x":[3]}"#,
@@ -141,7 +141,7 @@ fn templates(rt: HostRuntime) {
             "LeftOutContext",
         ),
     ];
-    for (spelling, with, without) in with_item {
+    for &(spelling, with, without) in with_item {
         let answer = answered(&rt, alloc, spelling, true, b"{}", item);
         assert_eq!(rt; answer.as_str(), with);
         let answer = answered(&rt, alloc, spelling, true, b"{}", None);

@@ -16,7 +16,7 @@ fn trees(rt: HostRuntime) {
     let alloc = rt.alloc();
     let declared = r#"{"input":{"type":"integer"},"tasks":{}}"#;
     let too_deep = [b'['; 128];
-    let vectors: [(&[u8], &str); 14] = [
+    let vectors: &[(&[u8], &str)] = &[
         (b"9223372036854775807", "9223372036854775807"),
         (b"-9223372036854775808", "-9223372036854775808"),
         (b"9223372036854775808", "NotWhole"),
@@ -35,7 +35,7 @@ fn trees(rt: HostRuntime) {
         (br#""\u0061\n\/""#, r#""a\n/""#),
         (declared.as_bytes(), declared),
     ];
-    for (text, wanted) in vectors {
+    for &(text, wanted) in vectors {
         let answer = read_and_written(&rt, alloc, text);
         assert_eq!(rt; answer.as_str(), wanted);
     }
@@ -51,14 +51,14 @@ fn trees(rt: HostRuntime) {
 #[test]
 fn texts_in_a_line(rt: HostRuntime) {
     let alloc = rt.alloc();
-    let vectors = [
+    let vectors = &[
         ("", "\"\"", ""),
         ("a \"b\"\\", "\"a \\\"b\\\"\\\\\"", "a \"b\"\\"),
         ("a\nb", "\"a\\nb\"", "\"a\\nb\""),
         ("\u{1f}", "\"\\u001f\"", "\"\\u001f\""),
         ("\u{7f}\u{e9}", "\"\u{7f}\u{e9}\"", "\u{7f}\u{e9}"),
     ];
-    for (text, wanted, line) in vectors {
+    for &(text, wanted, line) in vectors {
         assert_eq!(rt; quoted(alloc, text).expect(&rt, "a text").as_str(), wanted);
         assert_eq!(rt; in_line(alloc, text).expect(&rt, "a text").as_str(), line);
     }

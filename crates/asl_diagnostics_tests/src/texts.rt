@@ -209,7 +209,7 @@ fn rule_object(
 fn places_go_by_file_line_and_column(rt: HostRuntime) -> Result<(), Fail> {
     let rule = rule_of_warning(Warning::NoDataReaches);
     let mut found = Vec::new(rt.alloc());
-    for (file, line, column, message) in [
+    for &(file, line, column, message) in &[
         ("b", 1, 1, "sixth"),
         ("a", 10, 1, "fifth"),
         ("a", 2, 9, "second"),
@@ -242,7 +242,7 @@ fn has_sound_texts(rule: &Rule) -> bool {
 
 #[test]
 fn every_rule_has_its_texts(rt: HostRuntime) -> Result<(), Fail> {
-    for fault in [
+    for &fault in &[
         FindingFault::NotCertified,
         FindingFault::NotAState,
         FindingFault::TaskUndeclared,
@@ -266,7 +266,7 @@ fn every_rule_has_its_texts(rt: HostRuntime) -> Result<(), Fail> {
             "{rule:?}"
         );
     }
-    for warning in [
+    for &warning in &[
         Warning::UnreachableState,
         Warning::NoDataReaches,
         Warning::CatcherNeverTaken,
@@ -290,7 +290,7 @@ fn every_rule_has_its_texts(rt: HostRuntime) -> Result<(), Fail> {
 
 #[test]
 fn every_fault_of_a_text_has_a_rule(rt: HostRuntime) -> Result<(), Fail> {
-    for fault in [
+    for &fault in &[
         DefFault::NotObject,
         DefFault::MissingField,
         DefFault::WrongKind,
@@ -316,7 +316,7 @@ fn every_fault_of_a_text_has_a_rule(rt: HostRuntime) -> Result<(), Fail> {
             "{rule:?}"
         );
     }
-    for fault in [
+    for fault in &[
         RecordFault::NotObject,
         RecordFault::MissingField,
         RecordFault::UnknownField,
@@ -325,7 +325,7 @@ fn every_fault_of_a_text_has_a_rule(rt: HostRuntime) -> Result<(), Fail> {
         RecordFault::BadVersion,
         RecordFault::BadNumber,
     ] {
-        let rule = rule_of_record(&fault).ok_or("a rule")?;
+        let rule = rule_of_record(fault).ok_or("a rule")?;
         assert!(rt;
             has_sound_texts(rule) && rule.severity == Severity::Error,
             "{rule:?}"

@@ -255,7 +255,7 @@ const LEFT: [((&str, &str, &str), &str, &str, &str); 4] = [
 #[test]
 fn outputs_by_number(rt: HostRuntime) {
     let alloc = rt.alloc();
-    for (fields, raw, work, wanted) in LEFT {
+    for &(fields, raw, work, wanted) in &LEFT {
         let mut shapes = Shapes::new(alloc);
         let raw = shapes.add(&shape(&rt, alloc, raw)).expect(&rt, "memory");
         let work = shapes.add(&shape(&rt, alloc, work)).expect(&rt, "memory");

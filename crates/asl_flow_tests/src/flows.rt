@@ -965,7 +965,7 @@ const OUTPUTS: [((&str, &str, &str), &str, &str, &str); 11] = [
 #[test]
 fn outputs(rt: HostRuntime) {
     let alloc = rt.alloc();
-    for (fields, raw, work, wanted) in OUTPUTS {
+    for &(fields, raw, work, wanted) in &OUTPUTS {
         let pass = state(&rt, alloc, Kind::Pass { result: None }, fields);
         let answer = match leave(
             alloc,

@@ -66,7 +66,7 @@ fn node(alloc: Global, label: &str) -> Result<String, AllocError> {
 #[test]
 fn names_in_labels(rt: HostRuntime) {
     let alloc = rt.alloc();
-    for (name, in_mermaid, in_dot) in NAMES {
+    for &(name, in_mermaid, in_dot) in &NAMES {
         let definition = definition(alloc, name).expect(&rt, "memory");
         let text = graph(&rt, alloc, &definition, None, Format::Mermaid, false);
         let wanted = flowchart(alloc, in_mermaid).expect(&rt, "memory");
@@ -110,7 +110,7 @@ const RULES: [(&str, &str); 8] = [
 #[test]
 fn rules_in_words(rt: HostRuntime) {
     let alloc = rt.alloc();
-    for (rule, words) in RULES {
+    for &(rule, words) in &RULES {
         let definition = format!(in alloc;
             "{{\"StartAt\":\"A\",\"States\":{{\"A\":{{\"Type\":\"Choice\",\"Choices\":[{{{rule},\"Next\":\"B\"}}]}},\"B\":{{\"Type\":\"Succeed\"}}}}}}"
         ).expect(&rt, "memory");

@@ -236,7 +236,7 @@ pub(crate) const CERTIFICATES: [(&str, &str, u32, &str); 8] = [
 #[test]
 fn certificates(rt: HostRuntime) {
     let alloc = rt.alloc();
-    for (definition, declared, rounds, certificate) in CERTIFICATES {
+    for &(definition, declared, rounds, certificate) in &CERTIFICATES {
         let is_inferred = infers(&rt, alloc, definition, declared, rounds, certificate);
         assert!(rt; is_inferred, "of {definition}");
     }
@@ -245,7 +245,7 @@ fn certificates(rt: HostRuntime) {
 #[test]
 fn refusals(rt: HostRuntime) {
     let alloc = rt.alloc();
-    let vectors = [
+    let vectors = &[
         (PASS, INTEGER, 1, "not settled"),
         (PASS, INTEGER, 0, "not settled"),
         (LOOP, NO_FIELD, 33, "not settled"),
@@ -277,7 +277,7 @@ fn refusals(rt: HostRuntime) {
             "T0 Parameters PayloadNotTaken []",
         ),
     ];
-    for (definition, declared, rounds, wanted) in vectors {
+    for &(definition, declared, rounds, wanted) in vectors {
         let told = refusal(&rt, alloc, definition, declared, rounds);
         assert_eq!(rt; told.as_str(), wanted, "of {definition}");
     }

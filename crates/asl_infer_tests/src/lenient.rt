@@ -66,7 +66,7 @@ const TEXT_FROM_TASK: &str =
 #[test]
 fn certificates_past_broken_rules(rt: HostRuntime) {
     let alloc = rt.alloc();
-    let vectors = [
+    let vectors = &[
         (
             TWO_FAULTS,
             INTEGER_OR_TEXT,
@@ -104,7 +104,7 @@ fn certificates_past_broken_rules(rt: HostRuntime) {
             r#"{"output":{"type":"integer"},"states":{"A":{"input":{"type":"integer"},"output":{"type":"integer"}}},"version":1}"#,
         ),
     ];
-    for (definition, declared, rounds, certificate) in vectors {
+    for &(definition, declared, rounds, certificate) in vectors {
         let is_inferred = infers(&rt, alloc, definition, declared, rounds, certificate);
         assert!(rt; is_inferred, "of {definition}");
     }
@@ -113,7 +113,7 @@ fn certificates_past_broken_rules(rt: HostRuntime) {
 #[test]
 fn the_same_where_no_rule_is_broken(rt: HostRuntime) {
     let alloc = rt.alloc();
-    for (definition, declared, rounds, certificate) in CERTIFICATES {
+    for &(definition, declared, rounds, certificate) in &CERTIFICATES {
         let is_inferred = infers(&rt, alloc, definition, declared, rounds, certificate);
         assert!(rt; is_inferred, "of {definition}");
     }
@@ -122,13 +122,13 @@ fn the_same_where_no_rule_is_broken(rt: HostRuntime) {
 #[test]
 fn none_where_they_do_not_settle(rt: HostRuntime) {
     let alloc = rt.alloc();
-    let vectors = [
+    let vectors = &[
         (TWO_FAULTS, INTEGER_OR_TEXT, 2),
         (MAP, INTEGER, 1),
         (LOOP, NO_FIELD, 33),
         (PASS, INTEGER, 0),
     ];
-    for (definition, declared, rounds) in vectors {
+    for &(definition, declared, rounds) in vectors {
         let is_none = matches!(inferred(&rt, alloc, definition, declared, rounds), Ok(None));
         assert!(rt; is_none, "of {definition}");
     }

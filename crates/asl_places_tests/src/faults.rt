@@ -19,7 +19,7 @@ fn may_go_on_at(rt: &impl Abort, alloc: Global, text: &str, byte: usize) -> bool
 
 #[test]
 fn what_is_wanted_is_told(rt: HostRuntime) {
-    for (text, byte, wanted) in [
+    for &(text, byte, wanted) in &[
         ("", 0, Wanted::Value),
         ("  \n", 3, Wanted::Value),
         ("{\"StartAt\" \"A\"}", 11, Wanted::Colon),
@@ -77,7 +77,7 @@ fn what_is_wanted_is_told(rt: HostRuntime) {
 
 #[test]
 fn other_faults_are_told(rt: HostRuntime) {
-    for (text, byte, kind) in [
+    for &(text, byte, kind) in &[
         ("{\"a\": tru}", 6, FaultKind::Word),
         ("[NaN]", 1, FaultKind::Word),
         ("nul", 0, FaultKind::Word),
@@ -113,7 +113,7 @@ fn other_faults_are_told(rt: HostRuntime) {
 
 #[test]
 fn json_has_no_fault(rt: HostRuntime) {
-    for text in [
+    for &text in &[
         "0",
         "-0.10e-5",
         " {\"a\": [1, true, {}], \"b\": null}\r\n",

@@ -69,7 +69,7 @@ fn found(rt: &impl Abort, alloc: Global, text: &str, path: &[&str]) -> Option<us
 
 #[test]
 fn members_and_elements_are_found(rt: HostRuntime) {
-    for (path, byte) in [
+    for &(path, byte) in &[
         ([].as_slice(), Some(0)),
         (["é"].as_slice(), Some(7)),
         (["A"].as_slice(), Some(49)),
@@ -82,7 +82,7 @@ fn members_and_elements_are_found(rt: HostRuntime) {
         assert_eq!(rt; found(&rt, rt.alloc(), TEXT, path), byte, "{path:?}");
     }
     let list = " [true, {\"\\u0041\": [5]}]";
-    for (path, byte) in [
+    for &(path, byte) in &[
         (["0"].as_slice(), Some(2)),
         (["1"].as_slice(), Some(8)),
         (["1", "A"].as_slice(), Some(19)),

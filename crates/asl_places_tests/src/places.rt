@@ -15,7 +15,7 @@ fn place(rt: &impl Abort, alloc: Global, text: &[u8], offset: usize) -> Place {
 
 #[test]
 fn characters_are_counted_and_breaks_end_lines(rt: HostRuntime) {
-    for (offset, line, column) in [
+    for &(offset, line, column) in &[
         (0, 1, 1),
         (2, 1, 2),
         (6, 1, 3),
@@ -41,7 +41,7 @@ fn places_far_behind_are_counted_on(rt: HostRuntime) {
     for _ in 0..3000 {
         text.push('x').expect(&rt, "memory");
     }
-    for (offset, line, column) in [
+    for &(offset, line, column) in &[
         (4999, 501, 3000),
         (2000, 501, 1),
         (1999, 500, 3),

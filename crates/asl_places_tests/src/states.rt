@@ -38,7 +38,7 @@ fn told(
 
 #[test]
 fn states_are_found_at_every_depth(rt: HostRuntime) {
-    for (name, line, column) in [
+    for &(name, line, column) in &[
         ("Split", 2, 3),
         ("Each", 3, 17),
         ("Inner", 4, 18),
@@ -57,7 +57,7 @@ fn states_are_found_at_every_depth(rt: HostRuntime) {
 
 #[test]
 fn fields_and_strings_of_states_are_found(rt: HostRuntime) {
-    for (name, field, text, line, column) in [
+    for &(name, field, text, line, column) in &[
         ("Old", "InputPath", None, 8, 40),
         ("Old", "ResultPath", None, 8, 3),
         ("Inner", "Parameters", None, 4, 42),
@@ -81,7 +81,7 @@ fn has_state(rt: &impl Abort, alloc: Global, text: &str, name: &str) -> bool {
 
 #[test]
 fn other_texts_have_no_states(rt: HostRuntime) {
-    for text in [
+    for &text in &[
         "{}",
         "[]",
         "1",

@@ -136,7 +136,7 @@ not covered: "Approved?" Default is never taken
 
 #[test]
 fn no_suites_are_told(rt: HostRuntime) {
-    for (format, wanted) in [
+    for &(format, wanted) in &[
         (Format::Text, "0 passed, 0 failed\n"),
         (Format::Json, "{\"failed\":0,\"passed\":0,\"suites\":[]}\n"),
         (

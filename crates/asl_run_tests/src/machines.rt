@@ -105,7 +105,7 @@ fn numbers_of_targets(rt: HostRuntime) {
     )
     .expect(&rt, "a value");
     let machine = read(alloc, &value).expect(&rt, "a machine");
-    for (number, wanted) in [
+    for &(number, wanted) in &[
         (0, "P 3, C 0, M 1, "),
         (1, "P 3, I 2, "),
         (2, ""),
@@ -129,7 +129,7 @@ fn numbers_of_targets(rt: HostRuntime) {
 #[test]
 fn retriers(rt: HostRuntime) {
     let alloc = rt.alloc();
-    for (definition, wanted) in [
+    for &(definition, wanted) in &[
         (
             r#"{"StartAt":"A","States":{"A":{"Type":"Task","Resource":"r","End":true,"Retry":[{"ErrorEquals":["E"]}]}}}"#,
             "1 3 2.0 0 NONE",
@@ -147,7 +147,7 @@ fn retriers(rt: HostRuntime) {
 #[test]
 fn definitions(rt: HostRuntime) {
     let alloc = rt.alloc();
-    let vectors = [
+    let vectors = &[
         (
             r#"{"StartAt":"A","States":{"A":{"Type":"Pass","End":true}}}"#,
             "1",
@@ -258,7 +258,7 @@ fn definitions(rt: HostRuntime) {
             "NoSuchState A Branches",
         ),
     ];
-    for (definition, wanted) in vectors {
+    for &(definition, wanted) in vectors {
         let answer = answered(&rt, alloc, definition);
         assert_eq!(rt; answer.as_str(), wanted);
     }
@@ -274,7 +274,7 @@ fn definitions(rt: HostRuntime) {
     .expect(&rt, "a value");
     let machine = read(alloc, &value).expect(&rt, "a machine");
     assert_eq!(rt; machine.states(), 4);
-    for (name, number) in [
+    for &(name, number) in &[
         ("N", Some(0)),
         ("P", Some(1)),
         ("T0", Some(2)),

@@ -76,7 +76,7 @@ const COMMON: [(&[&str], &str); 6] = [
 
 #[test]
 fn several_samples_are_joined(rt: HostRuntime) -> Result<(), Fail> {
-    for (samples, wanted) in COMMON {
+    for &(samples, wanted) in &COMMON {
         let shape = common(rt.alloc(), samples)?;
         assert_eq!(rt; spelled(rt.alloc(), &shape)?.as_str(), wanted);
     }

@@ -137,7 +137,7 @@ fn test_cases_are_refused(rt: HostRuntime) -> Result<(), Fail> {
     let Ok(mocks) = mocks(alloc, FILE, "Refunds")? else {
         return Err(Fail::from("no mocks"));
     };
-    for (test_case, wanted) in REFUSED {
+    for &(test_case, wanted) in &REFUSED {
         match mocks.answers(alloc, test_case) {
             Ok(_) => return Err(Fail::from("answers")),
             Err(refusal) => {
@@ -176,7 +176,7 @@ const FILES: [(&str, &str); 6] = [
 #[test]
 fn mock_files_are_refused(rt: HostRuntime) -> Result<(), Fail> {
     let alloc = rt.alloc();
-    for (file, wanted) in FILES {
+    for &(file, wanted) in &FILES {
         match mocks(alloc, file, "M")? {
             Ok(_) => return Err(Fail::from("mocks")),
             Err(refusal) => {

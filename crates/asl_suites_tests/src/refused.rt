@@ -57,7 +57,7 @@ const SUITES: [(&str, &str); 11] = [
 
 #[test]
 fn suites_are_refused(rt: HostRuntime) -> Result<(), Fail> {
-    for (suite, wanted) in SUITES {
+    for &(suite, wanted) in &SUITES {
         assert_eq!(rt; refusal(rt.alloc(), suite)?.as_str(), wanted);
     }
     Ok(())
@@ -127,7 +127,7 @@ const CASES: [(&str, &str); 15] = [
 #[test]
 fn cases_are_refused(rt: HostRuntime) -> Result<(), Fail> {
     let alloc = rt.alloc();
-    for (case, wanted) in CASES {
+    for &(case, wanted) in &CASES {
         let suite = format!(in alloc;
             "{{\"definition\": \"d\", \"cases\": [{{\"name\": \"c\", {case}}}]}}"
         )?;
@@ -188,7 +188,7 @@ const ANSWERS: [(&str, &str); 15] = [
 #[test]
 fn answers_are_refused(rt: HostRuntime) -> Result<(), Fail> {
     let alloc = rt.alloc();
-    for (answers, why) in ANSWERS {
+    for &(answers, why) in &ANSWERS {
         let head =
             r#"{"definition": "d", "cases": [{"name": "c", "input": 1, "expect": {"path": []}"#;
         let suite = format!(in alloc; "{head}, \"answers\": {{\"A\": {answers}}}}}]}}")?;

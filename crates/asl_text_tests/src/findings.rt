@@ -73,7 +73,7 @@ fn all_of_each_name(rt: HostRuntime) {
 fn all_of_an_entry(rt: HostRuntime) {
     let alloc = rt.alloc();
     let certified = r#"{"output":true,"states":{"T":{"input":true,"output":true}},"version":1}"#;
-    for (declared, certificate, wanted) in [
+    for &(declared, certificate, wanted) in &[
         (
             r#"{"input":true}"#,
             r#"{"output":true,"states":{},"version":1}"#,

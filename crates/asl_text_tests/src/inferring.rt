@@ -45,12 +45,12 @@ fn inferred(alloc: Global, definition: &str, declared: &str, numbered: bool) -> 
 #[test]
 fn certificates(rt: HostRuntime) {
     let alloc = rt.alloc();
-    let vectors = [
+    let vectors = &[
         (PARALLEL, TASKS, false, SPELLED_OUT),
         (PARALLEL, TASKS, true, LISTED),
         (PASS, NESTED, true, NESTED_LISTED),
     ];
-    for (definition, declared, numbered, wanted) in vectors {
+    for &(definition, declared, numbered, wanted) in vectors {
         let text = inferred(alloc, definition, declared, numbered);
         assert_eq!(rt; text.as_str(), wanted);
         let verdict = verify_texts(
@@ -110,7 +110,7 @@ fn findings_with_examples(rt: HostRuntime) {
     let alloc = rt.alloc();
     let integer_needed =
         r#"{"input":{"type":"object","properties":{"j":{"type":"integer"}},"required":["j"]}}"#;
-    for (declared, wanted) in [
+    for &(declared, wanted) in &[
         (
             integer_needed,
             "no \"A\" InputPath PathMayBeMissing {\"j\":0}\n",

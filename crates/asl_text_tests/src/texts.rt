@@ -93,7 +93,7 @@ pub(crate) const CERTIFICATE: &str =
 #[test]
 fn answers_three_lines(rt: HostRuntime) {
     let alloc = rt.alloc();
-    let cases = [
+    let cases = &[
         (DEFINITION, DECLARED, CERTIFICATE, "yes\n", 0, ""),
         (
             DEFINITION,
@@ -152,7 +152,7 @@ fn answers_three_lines(rt: HostRuntime) {
             "refused certificate NotJson\n",
         ),
     ];
-    for (definition, declared, certificate, prints, status, tells) in cases {
+    for &(definition, declared, certificate, prints, status, tells) in cases {
         let text = format!(in alloc; "{definition}\n{declared}\n{certificate}").expect(
             &rt, "memory",
         );
@@ -171,12 +171,12 @@ fn answers_three_lines(rt: HostRuntime) {
 fn tells_failed_readers_and_writers(rt: HostRuntime) {
     let alloc = rt.alloc();
     let text = format!(in alloc; "{DEFINITION}\n{DECLARED}\n{CERTIFICATE}\n").expect(&rt, "memory");
-    let cases = [
+    let cases = &[
         (0, 9, "", "read failed\n"),
         (2, 9, "", "read failed\n"),
         (9, 0, "", "write failed\n"),
     ];
-    for (reads, writes, prints, tells) in cases {
+    for &(reads, writes, prints, tells) in cases {
         let mut sink = empty(alloc, 1, writes);
         let end = ended(alloc, &text, 60, reads, &mut sink);
         let (code, line) = closing(alloc, &end).expect(&rt, "a closing");

@@ -15,7 +15,7 @@ const MAP: &str =
 
 #[test]
 fn states_to_which_no_data_comes(rt: HostRuntime) {
-    let vectors = [
+    let vectors = &[
         (
             CHOICE,
             r#"{"version":2,"output":true,"states":{"A":{"input":{"type":["string","integer"]},"output":true},"B":{"input":{"type":"string"},"output":true},"C":{"input":{"type":"integer"},"output":true},"D":{"input":{"type":"string"},"output":true}}}"#,
@@ -51,7 +51,7 @@ fn states_to_which_no_data_comes(rt: HostRuntime) {
             "I : no data reaches this state\n",
         ),
     ];
-    for (definition, certificate, wanted) in vectors {
+    for &(definition, certificate, wanted) in vectors {
         let told = told_by_data(&rt, rt.alloc(), definition, certificate);
         assert_eq!(rt; told.as_str(), wanted, "of {definition} and {certificate}");
     }
@@ -85,7 +85,7 @@ const TEXT_AND_NUMBER: &str =
 
 #[test]
 fn single_rules(rt: HostRuntime) {
-    let vectors = [
+    let vectors = &[
         (r#"{"Variable":"$.n","IsPresent":true,"Next":"E"}"#, ""),
         (r#"{"Variable":"$.n","IsPresent":false,"Next":"E"}"#, ""),
         (
@@ -157,7 +157,7 @@ fn single_rules(rt: HostRuntime) {
             "",
         ),
     ];
-    for (rule, wanted) in vectors {
+    for &(rule, wanted) in vectors {
         let told = of_choice(&rt, rt.alloc(), rule, DEFAULT, TEXT_AND_NUMBER);
         assert_eq!(rt; told.as_str(), wanted, "of {rule}");
     }
@@ -169,7 +169,7 @@ fn several_rules(rt: HostRuntime) {
     let behind_and_default = format!(in alloc; "{BEHIND}{NO_DEFAULT}").expect(&rt, "memory");
     let third =
         "A Choices[2]: rule 3 never leads on: a rule in front of it is true for all data that comes here\n";
-    let vectors = [
+    let vectors = &[
         // The second is true where the first is false.
         (
             r#"{"Variable":"$.n","IsPresent":true,"Next":"E"},{"Variable":"$.n","IsPresent":false,"Next":"E"}"#,
@@ -228,7 +228,7 @@ fn several_rules(rt: HostRuntime) {
             "A : no data reaches this state\n",
         ),
     ];
-    for (rules, settings, shape, wanted) in vectors {
+    for &(rules, settings, shape, wanted) in vectors {
         let told = of_choice(&rt, rt.alloc(), rules, settings, shape);
         assert_eq!(rt; told.as_str(), wanted, "of {rules}, {settings} and {shape}");
     }

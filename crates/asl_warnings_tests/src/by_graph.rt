@@ -21,7 +21,7 @@ const UNLED_INSIDE: &str =
 
 #[test]
 fn states_to_which_nothing_leads(rt: HostRuntime) {
-    let vectors = [
+    let vectors = &[
         (ALL_WAYS, ""),
         (
             CIRCLE,
@@ -33,7 +33,7 @@ fn states_to_which_nothing_leads(rt: HostRuntime) {
         ),
         (UNLED_INSIDE, "D : nothing leads to this state\n"),
     ];
-    for (definition, wanted) in vectors {
+    for &(definition, wanted) in vectors {
         let told = told_by_graph(&rt, rt.alloc(), definition);
         assert_eq!(rt; told.as_str(), wanted, "of {definition}");
     }
@@ -57,7 +57,7 @@ fn behind_the_end(told: &str) -> &str {
 
 #[test]
 fn retriers_and_catchers_of_a_task(rt: HostRuntime) {
-    let vectors = [
+    let vectors = &[
         // A task fails with an error of any name, and each name but `States.ALL` stands for itself alone.
         (
             r#"{"ErrorEquals":["States.TaskFailed"]},{"ErrorEquals":["Busy"]},{"ErrorEquals":["States.ALL"]}"#,
@@ -89,7 +89,7 @@ fn retriers_and_catchers_of_a_task(rt: HostRuntime) {
             "T Retry[1]: retrier 2 is never taken: each error that it names is taken in front of it\nT Catch[2]: catcher 3 is never taken: each error that it names is taken in front of it\n",
         ),
     ];
-    for (retry, catch, wanted) in vectors {
+    for &(retry, catch, wanted) in vectors {
         let told = of_task(&rt, rt.alloc(), retry, catch);
         let found = behind_the_end(&told);
         assert_eq!(rt; found, wanted, "of {retry} and {catch}");
@@ -134,7 +134,7 @@ fn catchers_of_children(rt: HostRuntime) {
         r#"{"ErrorEquals":["States.BranchFailed"],"Next":"E"},{"ErrorEquals":["Path.NamesNothing","Outside"],"Next":"E"}"#;
     let both =
         r#"{"ErrorEquals":["Inside"],"Next":"E"},{"ErrorEquals":["Inside","Outside"],"Next":"E"}"#;
-    let vectors = [
+    let vectors = &[
         ("Map", FAIL, inside, ""),
         ("Map", FAIL, outside, NOT_RAISED),
         ("Map", TASK, outside, ""),
@@ -152,7 +152,7 @@ fn catchers_of_children(rt: HostRuntime) {
             "S Catch[1]: catcher 2 is never taken: each error that it names is taken in front of it or isn't raised here\n",
         ),
     ];
-    for (kind, child, catch, wanted) in vectors {
+    for &(kind, child, catch, wanted) in vectors {
         let told = of_children(&rt, rt.alloc(), kind, child, catch);
         assert_eq!(rt; told.as_str(), wanted, "of {kind}, {child} and {catch}");
     }

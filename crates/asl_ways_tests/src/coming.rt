@@ -4,7 +4,7 @@ use crate::telling::told_arrivals;
 
 #[test]
 fn what_comes(rt: HostRuntime) {
-    let vectors = [
+    let vectors = &[
         // By the certificate any tree comes to A: the rules let texts and numbers through.
         (
             CHOICE,
@@ -47,7 +47,7 @@ C {"type":"string"} from A Default
 "#,
         ),
     ];
-    for (given, wanted) in vectors {
+    for &(given, wanted) in vectors {
         let definition = given.definition;
         let told = told_arrivals(&rt, rt.alloc(), given);
         assert_eq!(rt; told.as_str(), wanted, "of {definition}");

@@ -7,7 +7,7 @@ use crate::telling::told_visits;
 
 #[test]
 fn visits_of_machines(rt: HostRuntime) {
-    let vectors = [
+    let vectors = &[
         // What leads from B to C is inside what comes to C by Default.
         (
             CHOICE,
@@ -59,7 +59,7 @@ fn visits_of_machines(rt: HostRuntime) {
 "#,
         ),
     ];
-    for (given, wanted) in vectors {
+    for &(given, wanted) in vectors {
         let definition = given.definition;
         let told = told_visits(&rt, rt.alloc(), given, 100);
         assert_eq!(rt; told.as_str(), wanted, "of {definition}");
@@ -68,7 +68,7 @@ fn visits_of_machines(rt: HostRuntime) {
 
 #[test]
 fn catchers(rt: HostRuntime) {
-    let vectors = [
+    let vectors = &[
         (
             CATCHERS,
             r#"0: T {"additionalProperties":false,"type":"object"} from the start: 0
@@ -93,7 +93,7 @@ fn catchers(rt: HostRuntime) {
 "#,
         ),
     ];
-    for (given, wanted) in vectors {
+    for &(given, wanted) in vectors {
         let declared = given.declared;
         let told = told_visits(&rt, rt.alloc(), given, 100);
         assert_eq!(rt; told.as_str(), wanted, "of {declared}");
@@ -102,7 +102,7 @@ fn catchers(rt: HostRuntime) {
 
 #[test]
 fn behind_broken_rules(rt: HostRuntime) {
-    let vectors = [
+    let vectors = &[
         (
             BROKEN_RULE,
             r#"0: A {"additionalProperties":false,"properties":{"a":{"type":"string"}},"required":["a"],"type":"object"} from the start: 0
@@ -123,7 +123,7 @@ fn behind_broken_rules(rt: HostRuntime) {
 "#,
         ),
     ];
-    for (given, wanted) in vectors {
+    for &(given, wanted) in vectors {
         let definition = given.definition;
         let told = told_visits(&rt, rt.alloc(), given, 100);
         assert_eq!(rt; told.as_str(), wanted, "of {definition}");
@@ -132,7 +132,7 @@ fn behind_broken_rules(rt: HostRuntime) {
 
 #[test]
 fn at_most_so_many(rt: HostRuntime) {
-    let vectors = [
+    let vectors = &[
         (0, ""),
         (
             1,
@@ -147,7 +147,7 @@ fn at_most_so_many(rt: HostRuntime) {
 "#,
         ),
     ];
-    for (most, wanted) in vectors {
+    for &(most, wanted) in vectors {
         let told = told_visits(&rt, rt.alloc(), CHOICE, most);
         assert_eq!(rt; told.as_str(), wanted, "at most {most}");
     }
