@@ -59,10 +59,15 @@ struct MockFile {
 ///
 /// Refused: in words where one of these can't be read, or where a case has a name that the machine hasn't; OutOfMemory.
 pub(crate) fn load<R: Files + Input + AllocGlobal>(rt: &R, name: &str) -> Result<Loaded, Unfit> {
-    let suite = suite_in(rt, name)?;
-    let machine = machine_beside(rt, name, &suite.definition)?;
-    let declared = declared_beside(rt, name, &suite.declared)?;
-    let cases = cases_beside(rt, name, &machine, &suite.mocks, suite.cases)?;
+    let Suite {
+        definition,
+        declared,
+        mocks,
+        cases,
+    } = suite_in(rt, name)?;
+    let machine = machine_beside(rt, name, &definition)?;
+    let declared = declared_beside(rt, name, &declared)?;
+    let cases = cases_beside(rt, name, &machine, &mocks, cases)?;
     Ok(Loaded {
         machine,
         declared,
