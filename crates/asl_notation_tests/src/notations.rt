@@ -176,7 +176,7 @@ const NESTED: &str = r#"{"type":"object","properties":{
 fn levels_below_the_depth_are_not_told(rt: HostRuntime) -> Result<(), Fail> {
     let alloc = rt.alloc();
     let width = 9;
-    for &(depth, wanted) in &[
+    for (depth, wanted) in [
         (0, "{…}"),
         (1, "{a: {…}, c?: […], d?: integer | [], e?: {}, f?: {..}}"),
         (
