@@ -14,6 +14,4 @@ pub mod RunEnds
 pub mod RunFaults
 pub mod Slices
 pub mod Stepwise
-pub mod TracedFields
-pub mod Traces
 pub mod WriteSteps

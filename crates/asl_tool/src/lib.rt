@@ -26,7 +26,6 @@ mod sources;
 mod spellings;
 mod subjects;
 mod texts;
-mod tracing;
 mod verifying;
 
 pub use asl_check::{Finding, FindingFault, Verdict};

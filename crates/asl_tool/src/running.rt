@@ -20,11 +20,11 @@ use crate::refusals::RunFault;
 use crate::runs::{Pick, RunEnd};
 use crate::sinks::{Sink, write_all};
 use crate::sources::Source;
-use crate::tracing::add_lines;
 use asl_machine::Machine;
 use asl_records::Declared;
 use asl_run::{Answers, Order, Stop, drive, start};
 use asl_shape::has;
+use asl_trace::Lines;
 use asl_tree::{OutOfMemory, Tree};
 use std::alloc::Global;
 
@@ -161,18 +161,18 @@ fn trace<O: Order, A: Answers>(
         Ok(run) => run,
         Err(_) => return Err(OutOfMemory),
     };
-    let mut lines = Vec::new(alloc);
+    let mut lines = Lines::new(alloc);
     'steps: for _taken in 0..max_steps {
         let (stop, entries) = match drive(&mut run, order, answers, 1) {
             Ok(driven) => driven,
             Err(_) => return Err(OutOfMemory),
         };
-        lines = add_lines(lines, &entries)?;
+        lines.add(&entries)?;
         let Stop::StepsSpent = stop else {
-            return Ok((stop, lines));
+            return Ok((stop, lines.into_bytes()));
         };
     }
-    Ok((Stop::StepsSpent, lines))
+    Ok((Stop::StepsSpent, lines.into_bytes()))
 }
 
 /// What a run ends with that was driven until it stopped so. Where a task has no answer though one is left, that one

@@ -1,0 +1,3 @@
+mod EntryLines
+mod Places
+mod Traces

@@ -1,0 +1,8 @@
+use Rattle.std.proofs.lemmas.Result.{IfOk-equal}
+use Rattle.std.proofs.Common.{◌++◌, ap}
+use Rattle.asl_trace.proofs.EntryLines.{retry_line}
+use Rattle.asl_trace.proofs.lines.Lines.add_retry.Goals as goal
+
+pub returns : goal.returns
+returns c =
+    IfOk-equal c.add_line.result _ _ _ c.add_line.ensures (ap (λ s. c.args.self.now.bytes.items ++ s) (retry_line c.args.at.now c.args.retrier c.args.state.now))

@@ -1,0 +1,33 @@
+//! What stands in a trace, with its text.
+
+ghost use Rattle.std.specs.Prelude.{◌≡◌, string_bytes};
+ghost use Rattle.asl_model.specs.Json.{compact_text};
+ghost use Rattle.asl_model.specs.TracePrinted.{numbers};
+ghost use Rattle.asl_model.specs.Tree.{Array, Text};
+ghost use Rattle.asl_tree.specs.View.{view};
+
+use asl_run::{Datum, Place};
+
+/// A datum with its compact text.
+#[derive(Drop)]
+pub(crate) struct WrittenDatum {
+    pub(crate) datum: Datum,
+    pub(crate) text: Vec<u8>,
+    ghost right: { text.items ≡ compact_text (view datum.value) },
+}
+
+/// The name of a state with its JSON text.
+#[derive(Drop)]
+pub(crate) struct WrittenName {
+    pub(crate) name: String,
+    pub(crate) text: Vec<u8>,
+    ghost right: { text.items ≡ compact_text (Text (string_bytes name)) },
+}
+
+/// A place with its JSON text.
+#[derive(Drop)]
+pub(crate) struct WrittenPlace {
+    pub(crate) place: Place,
+    pub(crate) text: Vec<u8>,
+    ghost right: { text.items ≡ compact_text (Array (numbers place.items)) },
+}
