@@ -1,5 +1,6 @@
 //! Vectors for calls and their values, and each call once with ample memory.
-use asl_intrinsic::{Item, eval, parse};
+use crate::expecting::{expect_text, printed};
+use asl_intrinsic::{Call, Item, eval, parse};
 use asl_tree::{Tree, read, to_text};
 use std::alloc::Global;
 use std::process::Abort;
@@ -7,178 +8,199 @@ use std::process::Abort;
 /// The call that the text spells, or the refusal.
 fn call_in(rt: &impl Abort, alloc: Global, text: &str, item: bool) -> String {
     match parse(alloc, text, item) {
-        Ok(call) => format!(in alloc; "{call:?}").expect(rt, "memory"),
-        Err(refusal) => format!(in alloc; "{refusal:?}").expect(rt, "memory"),
+        Ok(call) => printed(rt, alloc, &call),
+        Err(refusal) => printed(rt, alloc, &refusal),
     }
 }
 
+/// The tree in the JSON text.
+fn tree(rt: &impl Abort, alloc: Global, text: &str) -> Tree {
+    read(alloc, text.as_bytes()).expect(rt, "a tree")
+}
+
 /// The text of the value of the call for the input and the item, or the refusal.
-fn value_of(
+fn value_of_call(
     rt: &impl Abort,
     alloc: Global,
-    text: &str,
+    call: &Call,
     input: &Tree,
     item: Option<Item>,
 ) -> String {
-    match eval(
-        alloc,
-        &parse(alloc, text, true).expect(rt, "a path"),
-        input,
-        item,
-    ) {
+    match eval(alloc, call, input, item) {
         Ok(value) => to_text(alloc, &value).expect(rt, "a text"),
-        Err(refusal) => format!(in alloc; "{refusal:?}").expect(rt, "memory"),
+        Err(refusal) => printed(rt, alloc, &refusal),
     }
+}
+
+/// The same of the call that the text spells, for the input of these tests.
+fn value_of(rt: &impl Abort, alloc: Global, text: &str, item: Option<Item>) -> String {
+    let call = parse(alloc, text, true).expect(rt, "a path");
+    value_of_call(rt, alloc, &call, &tree(rt, alloc, INPUT), item)
 }
 
 /// A call in which calls nest that deep.
 fn nested(rt: &impl Abort, alloc: Global, depth: usize) -> String {
     let mut text = String::new(alloc);
-    for _ in 0..depth {
-        text.push_str("States.Array(").expect(rt, "memory");
-    }
-    for _ in 0..depth {
-        text.push_str(")").expect(rt, "memory");
+    for part in ["States.Array(", ")"] {
+        for _ in 0..depth {
+            text.push_str(part).expect(rt, "memory");
+        }
     }
     text
 }
 
+/// A text, and the call that it spells where an item is at hand, or the refusal.
+const CALLS: [(&str, &str); 40] = [
+    ("States.Array()", "Array([])"),
+    ("States.Array(  )", "Array([])"),
+    (
+        "States.ArrayLength( null , true,false,-0 ,7 )",
+        "ArrayLength([Null, Bool(true), Bool(false), Int(0), Int(7)])",
+    ),
+    (
+        "States.Array(-9223372036854775808,9223372036854775807)",
+        "Array([Int(-9223372036854775808), Int(9223372036854775807)])",
+    ),
+    (
+        r"States.Format('a{}\{\}\'\\{b{}')",
+        r#"Format([Text(Pieces { first: "a", after_holes: ["{}'\\{b", ""] })])"#,
+    ),
+    (
+        "States.Array(States.Array(1),'é,)')",
+        r#"Array([Call(Array([Int(1)])), Text(Pieces { first: "é,)", after_holes: [] })])"#,
+    ),
+    ("States.UUID()", "UnknownFunction"),
+    ("States.Array(1(2))", "UnknownFunction"),
+    (".(1)", "UnknownFunction"),
+    ("States.Array(States.UUID(),$.a..b)", "UnknownFunction"),
+    ("States.Array($.a..b,States.UUID())", "UnknownFunction"),
+    ("States.UUID(States.Array(1)", "Malformed"),
+    ("States.Array(1", "Malformed"),
+    ("", "Malformed"),
+    ("(1)", "Malformed"),
+    ("States.Array", "Malformed"),
+    (" States.Array()", "Malformed"),
+    ("States.Array() ", "Malformed"),
+    ("States.Array ()", "Malformed"),
+    ("States.Array(1,)", "Malformed"),
+    ("States.Array(,1)", "Malformed"),
+    ("States.Array(1 2)", "Malformed"),
+    ("States.Array(01)", "Malformed"),
+    ("States.Array(-01)", "Malformed"),
+    ("States.Array(--1)", "Malformed"),
+    ("States.Array(+1)", "Malformed"),
+    ("States.Array(1.5)", "Malformed"),
+    ("States.Array(9223372036854775808)", "Malformed"),
+    ("States.Array(-9223372036854775809)", "Malformed"),
+    ("States.Array('a)", "Malformed"),
+    (r"States.Array('\n')", "Malformed"),
+    (r"States.Array('\", "Malformed"),
+    ("States.Array($['a)", "Malformed"),
+    ("States.Array(nil)", "Malformed"),
+    ("States.Array($.a..b)", "BadPath"),
+    ("States.Array($['Map'],$$['Map'].Item.Index)", "BadPath"),
+    ("States.Array($$.Map.Item.Index.x)", "BadPath"),
+    ("States.Array($$.Map.Item.Valuex)", "BadPath"),
+    ("States.Array($$.Map.Item.Value[*])", "BadPath"),
+    ("States.Array($$)", "BadPath"),
+];
+
 #[test]
 fn calls(rt: HostRuntime) {
     let alloc = rt.alloc();
-    let vectors = &[
-        ("States.Array()", "Array([])"),
-        ("States.Array(  )", "Array([])"),
-        (
-            "States.ArrayLength( null , true,false,-0 ,7 )",
-            "ArrayLength([Null, Bool(true), Bool(false), Int(0), Int(7)])",
-        ),
-        (
-            "States.Array(-9223372036854775808,9223372036854775807)",
-            "Array([Int(-9223372036854775808), Int(9223372036854775807)])",
-        ),
-        (
-            r"States.Format('a{}\{\}\'\\{b{}')",
-            r#"Format([Text(Pieces { first: "a", after_holes: ["{}'\\{b", ""] })])"#,
-        ),
-        (
-            "States.Array(States.Array(1),'é,)')",
-            r#"Array([Call(Array([Int(1)])), Text(Pieces { first: "é,)", after_holes: [] })])"#,
-        ),
-        ("States.UUID()", "UnknownFunction"),
-        ("States.Array(1(2))", "UnknownFunction"),
-        (".(1)", "UnknownFunction"),
-        ("States.Array(States.UUID(),$.a..b)", "UnknownFunction"),
-        ("States.Array($.a..b,States.UUID())", "UnknownFunction"),
-        ("States.UUID(States.Array(1)", "Malformed"),
-        ("States.Array(1", "Malformed"),
-        ("", "Malformed"),
-        ("(1)", "Malformed"),
-        ("States.Array", "Malformed"),
-        (" States.Array()", "Malformed"),
-        ("States.Array() ", "Malformed"),
-        ("States.Array ()", "Malformed"),
-        ("States.Array(1,)", "Malformed"),
-        ("States.Array(,1)", "Malformed"),
-        ("States.Array(1 2)", "Malformed"),
-        ("States.Array(01)", "Malformed"),
-        ("States.Array(-01)", "Malformed"),
-        ("States.Array(--1)", "Malformed"),
-        ("States.Array(+1)", "Malformed"),
-        ("States.Array(1.5)", "Malformed"),
-        ("States.Array(9223372036854775808)", "Malformed"),
-        ("States.Array(-9223372036854775809)", "Malformed"),
-        ("States.Array('a)", "Malformed"),
-        (r"States.Array('\n')", "Malformed"),
-        (r"States.Array('\", "Malformed"),
-        ("States.Array($['a)", "Malformed"),
-        ("States.Array(nil)", "Malformed"),
-        ("States.Array($.a..b)", "BadPath"),
-        ("States.Array($['Map'],$$['Map'].Item.Index)", "BadPath"),
-        ("States.Array($$.Map.Item.Index.x)", "BadPath"),
-        ("States.Array($$.Map.Item.Valuex)", "BadPath"),
-        ("States.Array($$.Map.Item.Value[*])", "BadPath"),
-        ("States.Array($$)", "BadPath"),
-    ];
-    for &(text, wanted) in vectors {
-        let call = call_in(&rt, alloc, text, true);
-        assert_eq!(rt; call.as_str(), wanted, "at {text}");
+    for (text, wanted) in &CALLS {
+        expect_text(&rt, call_in(&rt, alloc, text, true), wanted, &[text]);
     }
+}
 
-    let index = call_in(&rt, alloc, "States.Array($$.Map.Item.Index)", false);
-    assert_eq!(rt; index.as_str(), "BadPath");
-    let value = call_in(&rt, alloc, "States.Array($$.Map.Item.Value)", false);
-    assert_eq!(rt; value.as_str(), "BadPath");
+#[test]
+fn calls_without_an_item(rt: HostRuntime) {
+    let alloc = rt.alloc();
+    for text in &[
+        "States.Array($$.Map.Item.Index)",
+        "States.Array($$.Map.Item.Value)",
+    ] {
+        expect_text(&rt, call_in(&rt, alloc, text, false), "BadPath", &[text]);
+    }
+}
 
+#[test]
+fn nested_calls(rt: HostRuntime) {
+    let alloc = rt.alloc();
     assert!(rt; parse(alloc, &nested(&rt, alloc, 32), false).is_ok());
     let too_deep = call_in(&rt, alloc, &nested(&rt, alloc, 33), false);
-    assert_eq!(rt; too_deep.as_str(), "Malformed");
+    expect_text(&rt, too_deep, "Malformed", &["33"]);
 }
+
+/// The input of these tests.
+const INPUT: &str = r#"{"x":{"y":2},"f":"\\{}","l":[1,[]],"a b":true,"n":7}"#;
+
+/// A call, and the text of its value, or the refusal.
+const VALUES: [(&str, &str); 25] = [
+    (
+        "States.Array( 1 , null,true,$.x)",
+        r#"[1,null,true,{"y":2}]"#,
+    ),
+    ("States.Array()", "[]"),
+    ("States.Array('a{}\\{b')", r#"["a{}{b"]"#),
+    ("States.Array($['a b'])", "[true]"),
+    ("States.Array($.z)", "IntrinsicFailure"),
+    ("States.Array($$.Map.Item.Index)", "[3]"),
+    ("States.Array($$.Map.Item.Value.v)", "[5]"),
+    ("States.Array($$.Map.Item.Value.w)", "IntrinsicFailure"),
+    ("States.ArrayLength(States.Array(1,2))", "2"),
+    ("States.ArrayLength($.l)", "2"),
+    ("States.ArrayLength('ab')", "IntrinsicFailure"),
+    ("States.ArrayLength()", "IntrinsicFailure"),
+    ("States.ArrayLength($.l,$.l)", "IntrinsicFailure"),
+    ("States.Format('{')", r#""{""#),
+    ("States.Format('{', 1)", "IntrinsicFailure"),
+    ("States.Format($.f, 1)", r#""\\1""#),
+    (
+        "States.Format('{}-{} {}{}', 'a{}', -12, true, null)",
+        r#""a{}--12 truenull""#,
+    ),
+    ("States.Format('{}', $.x)", "IntrinsicFailure"),
+    ("States.Format('{}')", "IntrinsicFailure"),
+    (r"States.Format('{} of \{}', $.n)", r#""7 of {}""#),
+    (
+        r"States.Format('{} of \{}', $.n, $.n, $.n)",
+        "IntrinsicFailure",
+    ),
+    ("States.Format(1)", "IntrinsicFailure"),
+    ("States.Format()", "IntrinsicFailure"),
+    (
+        "States.Format(States.Format('\\{}\\{\\}'), 1)",
+        "IntrinsicFailure",
+    ),
+    (
+        "States.Format(States.Format('\\{\\}\\{\\}'), 1, 2)",
+        r#""12""#,
+    ),
+];
 
 #[test]
 fn values(rt: HostRuntime) {
     let alloc = rt.alloc();
-    let input = read(
-        alloc,
-        br#"{"x":{"y":2},"f":"\\{}","l":[1,[]],"a b":true,"n":7}"#,
-    )
-    .expect(&rt, "a tree");
-    let vectors = &[
-        (
-            "States.Array( 1 , null,true,$.x)",
-            r#"[1,null,true,{"y":2}]"#,
-        ),
-        ("States.Array()", "[]"),
-        ("States.Array('a{}\\{b')", r#"["a{}{b"]"#),
-        ("States.Array($['a b'])", "[true]"),
-        ("States.Array($.z)", "IntrinsicFailure"),
-        ("States.Array($$.Map.Item.Index)", "[3]"),
-        ("States.Array($$.Map.Item.Value.v)", "[5]"),
-        ("States.Array($$.Map.Item.Value.w)", "IntrinsicFailure"),
-        ("States.ArrayLength(States.Array(1,2))", "2"),
-        ("States.ArrayLength($.l)", "2"),
-        ("States.ArrayLength('ab')", "IntrinsicFailure"),
-        ("States.ArrayLength()", "IntrinsicFailure"),
-        ("States.ArrayLength($.l,$.l)", "IntrinsicFailure"),
-        ("States.Format('{')", r#""{""#),
-        ("States.Format('{', 1)", "IntrinsicFailure"),
-        ("States.Format($.f, 1)", r#""\\1""#),
-        (
-            "States.Format('{}-{} {}{}', 'a{}', -12, true, null)",
-            r#""a{}--12 truenull""#,
-        ),
-        ("States.Format('{}', $.x)", "IntrinsicFailure"),
-        ("States.Format('{}')", "IntrinsicFailure"),
-        (r"States.Format('{} of \{}', $.n)", r#""7 of {}""#),
-        (
-            r"States.Format('{} of \{}', $.n, $.n, $.n)",
-            "IntrinsicFailure",
-        ),
-        ("States.Format(1)", "IntrinsicFailure"),
-        ("States.Format()", "IntrinsicFailure"),
-        (
-            "States.Format(States.Format('\\{}\\{\\}'), 1)",
-            "IntrinsicFailure",
-        ),
-        (
-            "States.Format(States.Format('\\{\\}\\{\\}'), 1, 2)",
-            r#""12""#,
-        ),
-    ];
-    let third = read(alloc, br#"{"v":5}"#).expect(&rt, "a tree");
-    let item = Item {
-        index: 3,
-        value: &third,
-    };
-    for &(text, wanted) in vectors {
-        let value = value_of(&rt, alloc, text, &input, Some(item));
-        assert_eq!(rt; value.as_str(), wanted, "at {text}");
+    let value = &tree(&rt, alloc, r#"{"v":5}"#);
+    let item = Some(Item { index: 3, value });
+    for (text, wanted) in &VALUES {
+        expect_text(&rt, value_of(&rt, alloc, text, item), wanted, &[text]);
     }
-    for &text in &[
+}
+
+#[test]
+fn no_values_without_an_item(rt: HostRuntime) {
+    let alloc = rt.alloc();
+    for text in &[
         "States.Array($$.Map.Item.Index)",
         "States.Array($$.Map.Item.Value)",
     ] {
-        let value = value_of(&rt, alloc, text, &input, None);
-        assert_eq!(rt; value.as_str(), "IntrinsicFailure", "at {text}");
+        expect_text(
+            &rt,
+            value_of(&rt, alloc, text, None),
+            "IntrinsicFailure",
+            &[text],
+        );
     }
 }

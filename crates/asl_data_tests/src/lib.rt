@@ -7,6 +7,8 @@
 #[cfg(test)]
 mod choices;
 #[cfg(test)]
+mod expecting;
+#[cfg(test)]
 mod intrinsics;
 #[cfg(test)]
 mod numbered;

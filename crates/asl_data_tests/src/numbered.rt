@@ -1,35 +1,36 @@
 //! Shapes in a table: their numbers, their nodes, the shapes again, how they compare and join, which trees show what they
 //! say, and how they are read from their spellings, each call once with ample memory.
+use crate::expecting::{expect_answer, expect_text, printed};
 use asl_numbered::{Node, NodeField, NumberedRefusal, Shapes};
 use asl_shape::{Shape, ShapeRefusal, read, write};
 use asl_tree::{Tree, to_text};
+use serde_json::Value;
 use std::alloc::Global;
 use std::collections::BTreeMap;
 use std::process::Abort;
 
+/// The tree in the JSON text.
+fn tree(rt: &impl Abort, alloc: Global, text: &str) -> Tree {
+    asl_tree::read(alloc, text.as_bytes()).expect(rt, "a tree")
+}
+
 /// The shape that the JSON text spells.
 fn shape(rt: &impl Abort, alloc: Global, text: &str) -> Shape {
-    let tree = asl_tree::read(alloc, text.as_bytes()).expect(rt, "a tree");
-    read(alloc, &tree).expect(rt, "a shape")
+    read(alloc, &tree(rt, alloc, text)).expect(rt, "a shape")
+}
+
+/// The compact text of the tree that is written for the shape.
+fn written(rt: &impl Abort, alloc: Global, shape: &Shape) -> String {
+    let tree = write(alloc, shape).expect(rt, "a tree");
+    to_text(alloc, &tree).expect(rt, "a text")
 }
 
 /// The shape of that number as it is written, or `none`.
 fn expanded(rt: &impl Abort, alloc: Global, shapes: &Shapes, number: usize) -> String {
     match shapes.expand(number).expect(rt, "a shape") {
-        Some(shape) => {
-            let tree = write(alloc, &shape).expect(rt, "a tree");
-            to_text(alloc, &tree).expect(rt, "a text")
-        }
+        Some(shape) => written(rt, alloc, &shape),
         None => String::from_str(alloc, "none").expect(rt, "memory"),
     }
-}
-
-/// What the table tells of that number: the node, whether the shape is inhabited, and the shape.
-fn told(rt: &impl Abort, alloc: Global, shapes: &Shapes, number: usize) -> String {
-    let node = shapes.node(number);
-    let inhabited = shapes.inhabited(number);
-    let shape = expanded(rt, alloc, shapes, number);
-    format!(in alloc; "{node:?} {inhabited:?} {shape}").expect(rt, "memory")
 }
 
 /// How many lists stand inside each other in a long chain.
@@ -38,12 +39,24 @@ const LONG: usize = 300_000;
 /// How many do in one that is joined: no more than a run without proofs joins in its time.
 const JOINED_LONG: usize = 100_000;
 
+/// The number that is given to the node.
+fn added_node(rt: &impl Abort, shapes: &mut Shapes, node: Node) -> Option<usize> {
+    shapes.add_node(node).expect(rt, "a number")
+}
+
 /// The number that is given to the list whose further elements have the shape of that number.
 fn added_list(rt: &impl Abort, alloc: Global, shapes: &mut Shapes, rest: usize) -> Option<usize> {
     let first = Vec::new(alloc);
-    shapes
-        .add_node(Node::List { first, rest })
-        .expect(rt, "a number")
+    added_node(rt, shapes, Node::List { first, rest })
+}
+
+/// The numbers of parts.
+fn numbers(rt: &impl Abort, alloc: Global, given: &[usize]) -> Vec<usize> {
+    let mut parts = Vec::new(alloc);
+    for number in given {
+        parts.push(*number).expect(rt, "memory");
+    }
+    parts
 }
 
 /// The number that is given to the shape of several kinds whose parts have these numbers.
@@ -51,35 +64,123 @@ fn added_several(
     rt: &impl Abort,
     alloc: Global,
     shapes: &mut Shapes,
-    numbers: &[usize],
+    given: &[usize],
 ) -> Option<usize> {
-    let mut parts = Vec::new(alloc);
-    for number in numbers {
-        parts.push(*number).expect(rt, "memory");
-    }
-    shapes.add_node(Node::Several(parts)).expect(rt, "a number")
+    added_node(rt, shapes, Node::Several(numbers(rt, alloc, given)))
+}
+
+/// The number that is given to the shape.
+fn number_of(rt: &impl Abort, shapes: &mut Shapes, shape: &Shape) -> usize {
+    shapes.add(shape).expect(rt, "a number")
+}
+
+/// The number that is given to the shape that the text spells.
+fn added(rt: &impl Abort, alloc: Global, shapes: &mut Shapes, text: &str) -> usize {
+    number_of(rt, shapes, &shape(rt, alloc, text))
+}
+
+/// The number is the one that is wanted of these givens.
+fn expect_number(rt: &impl Abort, told: Option<usize>, wanted: Option<usize>, given: &[&str]) {
+    assert_eq!(*rt; told, wanted, "{given:?}");
+}
+
+/// Whether the first shape is inside the second.
+fn is_inside(rt: &impl Abort, shapes: &mut Shapes, inner: usize, outer: usize) -> Option<bool> {
+    shapes.sub(inner, outer).expect(rt, "an answer")
+}
+
+/// That is told of the two shapes as it is wanted of these givens.
+fn expect_inside(
+    rt: &impl Abort,
+    shapes: &mut Shapes,
+    [inner, outer]: [usize; 2],
+    wanted: Option<bool>,
+    given: &[&str],
+) {
+    assert_eq!(*rt; is_inside(rt, shapes, inner, outer), wanted, "{given:?}");
+}
+
+/// It is told of the first shape in the second, and of the second in the first.
+fn expect_compared(
+    rt: &impl Abort,
+    shapes: &mut Shapes,
+    [first, second]: [usize; 2],
+    [forth, back]: [bool; 2],
+    given: &[&str],
+) {
+    expect_inside(rt, shapes, [first, second], Some(forth), given);
+    expect_inside(rt, shapes, [second, first], Some(back), given);
+}
+
+/// The number of the join of the two shapes.
+fn joined(rt: &impl Abort, shapes: &mut Shapes, first: usize, second: usize) -> Option<usize> {
+    shapes.join(first, second).expect(rt, "a number")
+}
+
+/// The join of the two shapes, and of the second with the first, has that number.
+fn expect_joined(
+    rt: &impl Abort,
+    shapes: &mut Shapes,
+    [first, second]: [usize; 2],
+    wanted: Option<usize>,
+    given: &[&str],
+) {
+    expect_number(rt, joined(rt, shapes, first, second), wanted, given);
+    expect_number(rt, joined(rt, shapes, second, first), wanted, given);
+}
+
+/// A table with `integer` alone.
+fn integers(rt: &impl Abort, alloc: Global) -> Shapes {
+    let mut shapes = Shapes::new(alloc);
+    let number = number_of(rt, &mut shapes, &Shape::Int);
+    expect_number(rt, Some(number), Some(0), &["integer"]);
+    shapes
 }
 
 #[test]
-fn one_shape(rt: HostRuntime) {
+fn nodes_of_one_shape(rt: HostRuntime) {
     let alloc = rt.alloc();
-    let mut shapes = Shapes::new(alloc);
-    assert_eq!(rt; shapes.add(&Shape::Int).expect(&rt, "a number"), 0);
-    assert_eq!(rt; shapes.add_node(Node::Int).expect(&rt, "a number"), Some(0));
-    assert_eq!(rt; added_list(&rt, alloc, &mut shapes, 1), None);
-    assert_eq!(rt; shapes.sub(0, 0).expect(&rt, "an answer"), Some(true));
-    assert_eq!(rt; shapes.join(0, 0).expect(&rt, "a number"), Some(0));
-    for (first, second) in [(0, 1), (1, 0)] {
-        assert_eq!(rt; shapes.sub(first, second).expect(&rt, "an answer"), None);
-        assert_eq!(rt; shapes.join(first, second).expect(&rt, "a number"), None);
-    }
-    for &(number, wanted) in &[
-        (0, r#"Some(Int) Some(true) {"type":"integer"}"#),
-        (1, "None None none"),
-    ] {
-        let answer = told(&rt, alloc, &shapes, number);
-        assert_eq!(rt; answer.as_str(), wanted);
-    }
+    let mut shapes = integers(&rt, alloc);
+    expect_number(
+        &rt,
+        added_node(&rt, &mut shapes, Node::Int),
+        Some(0),
+        &["integer"],
+    );
+    expect_number(&rt, added_list(&rt, alloc, &mut shapes, 1), None, &["list"]);
+}
+
+#[test]
+fn one_shape_is_compared(rt: HostRuntime) {
+    let mut shapes = integers(&rt, rt.alloc());
+    expect_inside(&rt, &mut shapes, [0, 0], Some(true), &["0", "0"]);
+    expect_inside(&rt, &mut shapes, [0, 1], None, &["0", "1"]);
+    expect_inside(&rt, &mut shapes, [1, 0], None, &["1", "0"]);
+}
+
+#[test]
+fn one_shape_is_joined(rt: HostRuntime) {
+    let mut shapes = integers(&rt, rt.alloc());
+    expect_joined(&rt, &mut shapes, [0, 0], Some(0), &["0", "0"]);
+    expect_joined(&rt, &mut shapes, [0, 1], None, &["0", "1"]);
+}
+
+/// What the table tells of that number, the node, whether the shape is inhabited, and the shape, is the wanted text.
+fn expect_told(rt: &impl Abort, alloc: Global, shapes: &Shapes, number: usize, wanted: &str) {
+    let node = printed(rt, alloc, &shapes.node(number));
+    let inhabited = shapes.inhabited(number);
+    let shape = expanded(rt, alloc, shapes, number);
+    let told = format!(in alloc; "{node} {inhabited:?} {shape}").expect(rt, "memory");
+    expect_text(rt, told, wanted, &[]);
+}
+
+#[test]
+fn one_shape_is_told(rt: HostRuntime) {
+    let alloc = rt.alloc();
+    let shapes = integers(&rt, alloc);
+    let wanted = r#"Some(Int) Some(true) {"type":"integer"}"#;
+    expect_told(&rt, alloc, &shapes, 0, wanted);
+    expect_told(&rt, alloc, &shapes, 1, "None None none");
 }
 
 /// A shape that is added behind those above it, its number, and how many shapes there are then.
@@ -108,14 +209,12 @@ fn shared_parts(rt: HostRuntime) {
     let alloc = rt.alloc();
     let mut shapes = Shapes::new(alloc);
     for (text, number, count) in &SHARED {
-        let added = shapes.add(&shape(&rt, alloc, text)).expect(&rt, "a number");
-        assert_eq!(rt; (added, shapes.len()), (*number, *count), "of {text}");
+        let added = added(&rt, alloc, &mut shapes, text);
+        expect_number(&rt, Some(added), Some(*number), &[text]);
+        expect_number(&rt, Some(shapes.len()), Some(*count), &[text]);
     }
-    let answer = told(&rt, alloc, &shapes, 4);
-    assert_eq!(rt;
-        answer.as_str(),
-        r#"Some(List { first: [], rest: 3 }) Some(true) {"items":false,"type":"array"}"#
-    );
+    let wanted = r#"Some(List { first: [], rest: 3 }) Some(true) {"items":false,"type":"array"}"#;
+    expect_told(&rt, alloc, &shapes, 4, wanted);
 }
 
 /// Two shapes and what they are joined to.
@@ -183,23 +282,39 @@ const JOINED: [(&str, &str, &str); 13] = [
     ),
 ];
 
+/// The shape of the join is the wanted one.
+fn expect_join(
+    rt: &impl Abort,
+    alloc: Global,
+    shapes: &mut Shapes,
+    [first, second]: [usize; 2],
+    wanted: &str,
+    given: &[&str],
+) {
+    let number = joined(rt, shapes, first, second).expect(rt, "a number");
+    expect_text(rt, expanded(rt, alloc, shapes, number), wanted, given);
+}
+
+/// The join of the two shapes, and of the second with the first, is the wanted one.
+fn expect_joins(
+    rt: &impl Abort,
+    alloc: Global,
+    shapes: &mut Shapes,
+    [left, right]: [&str; 2],
+    wanted: &str,
+) {
+    let first = added(rt, alloc, shapes, left);
+    let second = added(rt, alloc, shapes, right);
+    expect_join(rt, alloc, shapes, [first, second], wanted, &[left, right]);
+    expect_join(rt, alloc, shapes, [second, first], wanted, &[right, left]);
+}
+
 #[test]
 fn joins_as_worked_out_by_hand(rt: HostRuntime) {
     let alloc = rt.alloc();
     let mut shapes = Shapes::new(alloc);
     for (left, right, wanted) in &JOINED {
-        let first = shapes.add(&shape(&rt, alloc, left)).expect(&rt, "a number");
-        let second = shapes
-            .add(&shape(&rt, alloc, right))
-            .expect(&rt, "a number");
-        for (one, other) in [(first, second), (second, first)] {
-            let joined = shapes
-                .join(one, other)
-                .expect(&rt, "a number")
-                .expect(&rt, "a number");
-            let answer = expanded(&rt, alloc, &shapes, joined);
-            assert_eq!(rt; answer.as_str(), *wanted, "{left} {right}");
-        }
+        expect_joins(&rt, alloc, &mut shapes, [left, right], wanted);
     }
 }
 
@@ -212,109 +327,98 @@ fn chain(rt: &impl Abort, alloc: Global, shapes: &mut Shapes, base: usize, count
     top
 }
 
-/// The number of an object with the needed fields `a` and `b` of the shape of that number, and no other.
-fn doubled(rt: &impl Abort, alloc: Global, shapes: &mut Shapes, part: usize) -> usize {
+/// The needed fields `a` and `b` of the shape of that number.
+fn two_fields(rt: &impl Abort, alloc: Global, shape: usize) -> BTreeMap<String, NodeField> {
     let mut fields = BTreeMap::new(alloc);
     for name in ["a", "b"] {
         let key = String::from_str(alloc, name).expect(rt, "memory");
-        let field = NodeField {
-            needed: true,
-            shape: part,
-        };
-        let replaced: Result<_, _> = fields.insert(key, field);
+        let needed = true;
+        let replaced: Result<_, _> = fields.insert(key, NodeField { needed, shape });
         drop(replaced.expect(rt, "memory"));
     }
-    let node = Node::Object {
-        fields,
-        extra: false,
-    };
-    shapes
-        .add_node(node)
-        .expect(rt, "a number")
-        .expect(rt, "a number")
+    fields
 }
 
-/// What the table tells of the first shape in the second, and of the second in the first.
-fn compared(
+/// The number of an object with the needed fields `a` and `b` of the shape of that number, and no other.
+fn doubled(rt: &impl Abort, alloc: Global, shapes: &mut Shapes, part: usize) -> usize {
+    let fields = two_fields(rt, alloc, part);
+    let extra = false;
+    added_node(rt, shapes, Node::Object { fields, extra }).expect(rt, "a number")
+}
+
+/// The number of the shape that is doubled so often.
+fn doublings(
     rt: &impl Abort,
+    alloc: Global,
     shapes: &mut Shapes,
-    first: usize,
-    second: usize,
-) -> [Option<bool>; 2] {
-    [
-        shapes.sub(first, second).expect(rt, "an answer"),
-        shapes.sub(second, first).expect(rt, "an answer"),
-    ]
-}
-
-/// The number of the join of the two shapes, and of the second with the first.
-fn joined(rt: &impl Abort, shapes: &mut Shapes, first: usize, second: usize) -> [Option<usize>; 2] {
-    [
-        shapes.join(first, second).expect(rt, "a number"),
-        shapes.join(second, first).expect(rt, "a number"),
-    ]
+    base: usize,
+    count: usize,
+) -> usize {
+    let mut top = base;
+    for _ in 0..count {
+        top = doubled(rt, alloc, shapes, top);
+    }
+    top
 }
 
 #[test]
 fn long_chains(rt: HostRuntime) {
     let alloc = rt.alloc();
     let mut shapes = Shapes::new(alloc);
-    let int = shapes.add(&Shape::Int).expect(&rt, "a number");
-    let any = shapes.add(&Shape::Any).expect(&rt, "a number");
+    let int = number_of(&rt, &mut shapes, &Shape::Int);
+    let any = number_of(&rt, &mut shapes, &Shape::Any);
     let first = chain(&rt, alloc, &mut shapes, int, LONG);
     let second = chain(&rt, alloc, &mut shapes, any, LONG);
-    for _ in 0..2 {
-        assert_eq!(rt;
-            compared(&rt, &mut shapes, first, second),
-            [Some(true), Some(false)]
-        );
-    }
-    assert_eq!(rt; shapes.inhabited(second), Some(true));
+    expect_compared(&rt, &mut shapes, [first, second], [true, false], &["once"]);
+    expect_compared(&rt, &mut shapes, [first, second], [true, false], &["again"]);
+    assert!(rt; shapes.inhabited(second) == Some(true));
 }
 
 #[test]
 fn joined_chains(rt: HostRuntime) {
     let alloc = rt.alloc();
     let mut shapes = Shapes::new(alloc);
-    let int = shapes.add(&Shape::Int).expect(&rt, "a number");
-    let text = shapes.add(&Shape::Text).expect(&rt, "a number");
+    let int = number_of(&rt, &mut shapes, &Shape::Int);
+    let text = number_of(&rt, &mut shapes, &Shape::Text);
     let both = added_several(&rt, alloc, &mut shapes, &[int, text]).expect(&rt, "a number");
     let first = chain(&rt, alloc, &mut shapes, int, JOINED_LONG);
     let second = chain(&rt, alloc, &mut shapes, both, JOINED_LONG);
     let third = chain(&rt, alloc, &mut shapes, text, JOINED_LONG);
-    assert_eq!(rt;
-        joined(&rt, &mut shapes, first, third),
-        [Some(second), Some(second)]
-    );
+    expect_joined(&rt, &mut shapes, [first, third], Some(second), &["chains"]);
+}
+
+/// The numbers of `integer`, of `string` and of both in one, each doubled forty times.
+fn forty_times(rt: &impl Abort, alloc: Global, shapes: &mut Shapes) -> [usize; 3] {
+    let int = number_of(rt, shapes, &Shape::Int);
+    let text = number_of(rt, shapes, &Shape::Text);
+    let both = added_several(rt, alloc, shapes, &[int, text]).expect(rt, "a number");
+    [
+        doublings(rt, alloc, shapes, int, 40),
+        doublings(rt, alloc, shapes, text, 40),
+        doublings(rt, alloc, shapes, both, 40),
+    ]
 }
 
 #[test]
 fn forty_doublings(rt: HostRuntime) {
-    let alloc = rt.alloc();
-    let mut shapes = Shapes::new(alloc);
-    let mut first = shapes.add(&Shape::Int).expect(&rt, "a number");
-    let mut third = shapes.add(&Shape::Text).expect(&rt, "a number");
-    let mut second = added_several(&rt, alloc, &mut shapes, &[first, third]).expect(
-        &rt, "a number",
+    let mut shapes = Shapes::new(rt.alloc());
+    let [int, text, both] = forty_times(&rt, rt.alloc(), &mut shapes);
+    expect_compared(
+        &rt,
+        &mut shapes,
+        [int, both],
+        [true, false],
+        &["int", "both"],
     );
-    for _ in 0..40 {
-        first = doubled(&rt, alloc, &mut shapes, first);
-        second = doubled(&rt, alloc, &mut shapes, second);
-        third = doubled(&rt, alloc, &mut shapes, third);
-    }
-    assert_eq!(rt;
-        compared(&rt, &mut shapes, first, second),
-        [Some(true), Some(false)]
+    expect_compared(
+        &rt,
+        &mut shapes,
+        [int, text],
+        [false, false],
+        &["int", "text"],
     );
-    assert_eq!(rt;
-        compared(&rt, &mut shapes, first, third),
-        [Some(false), Some(false)]
-    );
-    assert_eq!(rt;
-        joined(&rt, &mut shapes, first, third),
-        [Some(second), Some(second)]
-    );
-    assert_eq!(rt; shapes.len(), 123);
+    expect_joined(&rt, &mut shapes, [int, text], Some(both), &["int", "text"]);
+    assert!(rt; shapes.len() == 123);
 }
 
 /// A shape and its example, or `none`.
@@ -447,65 +551,220 @@ fn text_of(rt: &impl Abort, alloc: Global, tree: &Option<Tree>) -> String {
     }
 }
 
+/// The text of the example of the shape of that number, or `none`.
+fn example_of(rt: &impl Abort, alloc: Global, shapes: &Shapes, number: usize) -> String {
+    let tree = shapes.example(alloc, number).expect(rt, "an answer");
+    text_of(rt, alloc, &tree)
+}
+
 #[test]
 fn examples_as_worked_out_by_hand(rt: HostRuntime) {
     let alloc = rt.alloc();
     let mut shapes = Shapes::new(alloc);
     for (text, wanted) in &EXAMPLES {
-        let number = shapes.add(&shape(&rt, alloc, text)).expect(&rt, "a number");
-        let tree = shapes.example(alloc, number).expect(&rt, "an answer");
-        assert_eq!(rt; text_of(&rt, alloc, &tree).as_str(), *wanted, "{text}");
+        let number = added(&rt, alloc, &mut shapes, text);
+        expect_text(
+            &rt,
+            example_of(&rt, alloc, &shapes, number),
+            wanted,
+            &[text],
+        );
     }
-    for (first, second, wanted) in &OUTSIDE {
-        let inner = shapes
-            .add(&shape(&rt, alloc, first))
-            .expect(&rt, "a number");
-        let outer = shapes
-            .add(&shape(&rt, alloc, second))
-            .expect(&rt, "a number");
-        for _ in 0..2 {
-            let tree = shapes.outside(alloc, inner, outer).expect(&rt, "an answer");
-            assert_eq!(rt;
-                text_of(&rt, alloc, &tree).as_str(),
-                *wanted,
-                "{first} {second}"
-            );
-        }
-        let is_inside = shapes.sub(inner, outer).expect(&rt, "an answer");
-        assert_eq!(rt; is_inside, Some(*wanted == "none"), "{first} {second}");
-    }
-    let beyond = shapes.len();
-    assert!(rt;
-        shapes
-            .example(alloc, beyond)
-            .expect(&rt, "an answer")
-            .is_none()
+}
+
+/// The text of a value of the first shape that lacks the second, or `none`.
+fn outside_of(
+    rt: &impl Abort,
+    alloc: Global,
+    shapes: &mut Shapes,
+    inner: usize,
+    outer: usize,
+) -> String {
+    let tree = shapes.outside(alloc, inner, outer).expect(rt, "an answer");
+    text_of(rt, alloc, &tree)
+}
+
+/// That value is twice the wanted one, and there is none just if the first shape is inside the second.
+fn expect_outside(
+    rt: &impl Abort,
+    alloc: Global,
+    shapes: &mut Shapes,
+    [left, right]: [&str; 2],
+    wanted: &str,
+) {
+    let inner = added(rt, alloc, shapes, left);
+    let outer = added(rt, alloc, shapes, right);
+    let given = [left, right];
+    expect_text(
+        rt,
+        outside_of(rt, alloc, shapes, inner, outer),
+        wanted,
+        &given,
     );
-    for (inner, outer) in [(0, beyond), (beyond, 0)] {
-        let tree = shapes.outside(alloc, inner, outer).expect(&rt, "an answer");
-        assert!(rt; tree.is_none());
+    expect_text(
+        rt,
+        outside_of(rt, alloc, shapes, inner, outer),
+        wanted,
+        &given,
+    );
+    expect_inside(rt, shapes, [inner, outer], Some(wanted == "none"), &given);
+}
+
+#[test]
+fn values_outside_as_worked_out_by_hand(rt: HostRuntime) {
+    let alloc = rt.alloc();
+    let mut shapes = Shapes::new(alloc);
+    for (first, second, wanted) in &OUTSIDE {
+        expect_outside(&rt, alloc, &mut shapes, [first, second], wanted);
     }
+}
+
+#[test]
+fn no_values_beyond_the_table(rt: HostRuntime) {
+    let alloc = rt.alloc();
+    let mut shapes = Shapes::new(alloc);
+    let any = number_of(&rt, &mut shapes, &Shape::Any);
+    let beyond = shapes.len();
+    expect_text(
+        &rt,
+        example_of(&rt, alloc, &shapes, beyond),
+        "none",
+        &["beyond"],
+    );
+    expect_text(
+        &rt,
+        outside_of(&rt, alloc, &mut shapes, any, beyond),
+        "none",
+        &["any"],
+    );
+    expect_text(
+        &rt,
+        outside_of(&rt, alloc, &mut shapes, beyond, any),
+        "none",
+        &["beyond"],
+    );
 }
 
 /// How often shapes are doubled whose examples are larger than any memory.
 const LARGE: usize = 100;
 
+/// Whether the value of the first shape that lacks the second is larger than memory.
+fn is_outside_larger(alloc: Global, shapes: &mut Shapes, inner: usize, outer: usize) -> bool {
+    shapes.outside(alloc, inner, outer).is_err()
+}
+
 #[test]
 fn examples_larger_than_memory(rt: HostRuntime) {
     let alloc = rt.alloc();
     let mut shapes = Shapes::new(alloc);
-    let null = shapes.add(&Shape::Null).expect(&rt, "a number");
-    let mut first = shapes.add(&Shape::Int).expect(&rt, "a number");
-    let mut second = shapes.add(&Shape::Text).expect(&rt, "a number");
-    for _ in 0..LARGE {
-        first = doubled(&rt, alloc, &mut shapes, first);
-        second = doubled(&rt, alloc, &mut shapes, second);
-    }
+    let null = number_of(&rt, &mut shapes, &Shape::Null);
+    let int = number_of(&rt, &mut shapes, &Shape::Int);
+    let text = number_of(&rt, &mut shapes, &Shape::Text);
+    let first = doublings(&rt, alloc, &mut shapes, int, LARGE);
+    let second = doublings(&rt, alloc, &mut shapes, text, LARGE);
     assert!(rt; shapes.example(alloc, first).is_err());
-    assert!(rt; shapes.outside(alloc, first, second).is_err());
-    assert!(rt; shapes.outside(alloc, first, null).is_err());
-    let tree = shapes.outside(alloc, null, first).expect(&rt, "an answer");
-    assert_eq!(rt; text_of(&rt, alloc, &tree).as_str(), "null");
+    assert!(rt; is_outside_larger(alloc, &mut shapes, first, second));
+    assert!(rt; is_outside_larger(alloc, &mut shapes, first, null));
+    expect_text(
+        &rt,
+        outside_of(&rt, alloc, &mut shapes, null, first),
+        "null",
+        &["null"],
+    );
+}
+
+/// What comes of reading the tree where that number alone is given.
+fn tree_read(
+    rt: &impl Abort,
+    shapes: &mut Shapes,
+    tree: &Tree,
+    number: usize,
+) -> Result<usize, NumberedRefusal> {
+    assert!(*rt; number < shapes.len());
+    shapes.read_with(tree, Some(&[number]))
+}
+
+/// What comes of reading the JSON value so.
+fn value_read(
+    rt: &impl Abort,
+    shapes: &mut Shapes,
+    value: &Value,
+    number: usize,
+) -> Result<usize, NumberedRefusal> {
+    assert!(*rt; number < shapes.len());
+    shapes.read_value_with(value, Some(&[number]))
+}
+
+/// What comes of reading the tree so, in the first version of certificates.
+fn tree_read_v1(
+    rt: &impl Abort,
+    shapes: &mut Shapes,
+    tree: &Tree,
+    number: usize,
+) -> Result<usize, NumberedRefusal> {
+    assert!(*rt; number < shapes.len());
+    shapes.read_with_v1(tree, Some(&[number]))
+}
+
+/// What comes of reading the JSON value so, in the first version of certificates.
+fn value_read_v1(
+    rt: &impl Abort,
+    shapes: &mut Shapes,
+    value: &Value,
+    number: usize,
+) -> Result<usize, NumberedRefusal> {
+    assert!(*rt; number < shapes.len());
+    shapes.read_value_with_v1(value, Some(&[number]))
+}
+
+/// The JSON value of the tree.
+fn value_of(rt: &impl Abort, alloc: Global, tree: &Tree) -> Value {
+    asl_tree::to_value(alloc, tree).expect(rt, "a value")
+}
+
+/// What was read of the tree, which was read of its JSON value as well.
+fn read_twice(
+    rt: &impl Abort,
+    answer: Result<usize, NumberedRefusal>,
+    again: Result<usize, NumberedRefusal>,
+    text: &str,
+) -> Result<usize, NumberedRefusal> {
+    expect_answer(rt, answer == again, true, &[text]);
+    answer
+}
+
+/// What comes of reading the text where that number alone is given. Its JSON value is read the same.
+fn read_over(
+    rt: &impl Abort,
+    alloc: Global,
+    shapes: &mut Shapes,
+    text: &str,
+    number: usize,
+) -> Result<usize, NumberedRefusal> {
+    let tree = tree(rt, alloc, text);
+    let answer = tree_read(rt, shapes, &tree, number);
+    let again = value_read(rt, shapes, &value_of(rt, alloc, &tree), number);
+    read_twice(rt, answer, again, text)
+}
+
+/// The same in the first version of certificates.
+fn read_over_v1(
+    rt: &impl Abort,
+    alloc: Global,
+    shapes: &mut Shapes,
+    text: &str,
+    number: usize,
+) -> Result<usize, NumberedRefusal> {
+    let tree = tree(rt, alloc, text);
+    let answer = tree_read_v1(rt, shapes, &tree, number);
+    let again = value_read_v1(rt, shapes, &value_of(rt, alloc, &tree), number);
+    read_twice(rt, answer, again, text)
+}
+
+/// The number and the shape of that number.
+fn numbered(rt: &impl Abort, alloc: Global, shapes: &Shapes, number: usize) -> String {
+    let shape = expanded(rt, alloc, shapes, number);
+    format!(in alloc; "{number} {shape}").expect(rt, "memory")
 }
 
 /// What comes of reading a shape: the number and the shape, or the refusal.
@@ -516,30 +775,9 @@ fn answered(
     answer: Result<usize, NumberedRefusal>,
 ) -> String {
     match answer {
-        Ok(number) => {
-            let shape = expanded(rt, alloc, shapes, number);
-            format!(in alloc; "{number} {shape}").expect(rt, "memory")
-        }
-        Err(refusal) => format!(in alloc; "{refusal:?}").expect(rt, "memory"),
+        Ok(number) => numbered(rt, alloc, shapes, number),
+        Err(refusal) => printed(rt, alloc, &refusal),
     }
-}
-
-/// What comes of reading the text where that number alone is given. Its JSON value is read the same.
-fn read_over(
-    rt: &impl Abort,
-    alloc: Global,
-    shapes: &mut Shapes,
-    text: &str,
-    number: usize,
-) -> String {
-    let tree = asl_tree::read(alloc, text.as_bytes()).expect(rt, "a tree");
-    let value = asl_tree::to_value(alloc, &tree).expect(rt, "a value");
-    assert!(rt; number < shapes.len());
-    let answer = shapes.read_with(&tree, Some(&[number]));
-    assert!(rt; number < shapes.len());
-    let again = shapes.read_value_with(&value, Some(&[number]));
-    assert_eq!(rt; answer, again, "{text}");
-    answered(rt, alloc, shapes, answer)
 }
 
 /// A spelling that is read behind those above it, where 0 is given, the number of `integer`, and what comes of it.
@@ -582,20 +820,21 @@ const REFERRING: [(&str, &str); 12] = [
 #[test]
 fn references_stand_for_given_shapes(rt: HostRuntime) {
     let alloc = rt.alloc();
-    let mut shapes = Shapes::new(alloc);
-    let int = shapes.add(&Shape::Int).expect(&rt, "a number");
+    let mut shapes = integers(&rt, alloc);
     for (text, wanted) in &REFERRING {
-        let answer = read_over(&rt, alloc, &mut shapes, text, int);
-        assert_eq!(rt; answer.as_str(), *wanted, "{text}");
+        let answer = read_over(&rt, alloc, &mut shapes, text, 0);
+        expect_text(&rt, answered(&rt, alloc, &shapes, answer), wanted, &[text]);
     }
-    let reference = asl_tree::read(alloc, br#"{"shape":0}"#).expect(&rt, "a tree");
+}
+
+#[test]
+fn references_without_given_shapes(rt: HostRuntime) {
+    let mut shapes = integers(&rt, rt.alloc());
+    let reference = tree(&rt, rt.alloc(), r#"{"shape":0}"#);
     let none_given = shapes.read_with(&reference, None);
-    assert_eq!(rt;
-        none_given,
-        Err(NumberedRefusal::Shape(ShapeRefusal::BadType))
-    );
+    assert!(rt; none_given == Err(NumberedRefusal::Shape(ShapeRefusal::BadType)));
     let nothing_there = shapes.read_with(&reference, Some(&[]));
-    assert_eq!(rt; nothing_there, Err(NumberedRefusal::BadNumber));
+    assert!(rt; nothing_there == Err(NumberedRefusal::BadNumber));
 }
 
 /// Parts by the places of shapes in the list of a test, and whether a node of these parts is taken.
@@ -627,31 +866,69 @@ const PARTS: [&str; 9] = [
     r#"{"type":["integer","string"]}"#,
 ];
 
+/// The numbers that are given to the shapes of that list.
+fn numbers_of_parts(rt: &impl Abort, alloc: Global, shapes: &mut Shapes) -> Vec<usize> {
+    let mut numbers = Vec::new(alloc);
+    for text in &PARTS {
+        numbers
+            .push(added(rt, alloc, shapes, text))
+            .expect(rt, "memory");
+    }
+    numbers
+}
+
+/// The numbers at these places.
+fn numbers_at(rt: &impl Abort, alloc: Global, numbers: &[usize], places: &[usize]) -> Vec<usize> {
+    let mut parts = Vec::new(alloc);
+    for place in places {
+        let part = numbers.get(*place).expect(rt, "a number");
+        parts.push(*part).expect(rt, "memory");
+    }
+    parts
+}
+
+/// Whether a node of these parts is taken; the table is as long as it was if it isn't.
+fn is_taken(rt: &impl Abort, shapes: &mut Shapes, parts: Vec<usize>) -> bool {
+    let length = shapes.len();
+    let is_added = added_node(rt, shapes, Node::Several(parts)).is_some();
+    assert!(*rt; is_added || shapes.len() == length);
+    is_added
+}
+
+/// That is told of the parts at these places as it is wanted.
+fn expect_taken(
+    rt: &impl Abort,
+    shapes: &mut Shapes,
+    parts: Vec<usize>,
+    wanted: bool,
+    places: &[usize],
+) {
+    assert_eq!(*rt; is_taken(rt, shapes, parts), wanted, "{places:?}");
+}
+
 #[test]
 fn nodes_of_several_kinds(rt: HostRuntime) {
     let alloc = rt.alloc();
     let mut shapes = Shapes::new(alloc);
-    let mut numbers = Vec::new(alloc);
-    for text in &PARTS {
-        let number = shapes.add(&shape(&rt, alloc, text)).expect(&rt, "a number");
-        numbers.push(number).expect(&rt, "memory");
+    let numbers = numbers_of_parts(&rt, alloc, &mut shapes);
+    for (places, wanted) in &NODES {
+        let parts = numbers_at(&rt, alloc, &numbers, places);
+        expect_taken(&rt, &mut shapes, parts, *wanted, places);
     }
-    for (places, is_taken) in &NODES {
-        let mut parts = Vec::new(alloc);
-        for place in *places {
-            let part = numbers.get(*place).expect(&rt, "a number");
-            parts.push(*part).expect(&rt, "memory");
-        }
-        let length = shapes.len();
-        let added = shapes
-            .add_node(Node::Several(parts))
-            .expect(&rt, "a number");
-        assert_eq!(rt; added.is_some(), *is_taken);
-        assert!(rt; added.is_some() || shapes.len() == length);
-    }
+}
+
+#[test]
+fn no_node_with_a_part_beyond_the_table(rt: HostRuntime) {
+    let alloc = rt.alloc();
+    let mut shapes = Shapes::new(alloc);
+    drop(numbers_of_parts(&rt, alloc, &mut shapes));
     let nowhere = shapes.len();
-    let added = added_several(&rt, alloc, &mut shapes, &[0, nowhere]);
-    assert_eq!(rt; added, None);
+    expect_number(
+        &rt,
+        added_several(&rt, alloc, &mut shapes, &[0, nowhere]),
+        None,
+        &["nowhere"],
+    );
 }
 
 /// A shape, whether it is inhabited, and whether it or one inside it is of several kinds.
@@ -676,23 +953,44 @@ const TOLD: [(&str, &str); 6] = [
     ),
 ];
 
+/// What the table tells of that number: whether the shape is inhabited, and whether it has several kinds.
+fn kinds_told(rt: &impl Abort, alloc: Global, shapes: &Shapes, number: usize) -> String {
+    let inhabited = shapes.inhabited(number);
+    let several = shapes.has_several(number);
+    format!(in alloc; "{inhabited:?} {several:?}").expect(rt, "memory")
+}
+
 #[test]
 fn what_is_told_of_several_kinds(rt: HostRuntime) {
     let alloc = rt.alloc();
     let mut shapes = Shapes::new(alloc);
     for (text, wanted) in &TOLD {
-        let number = shapes.add(&shape(&rt, alloc, text)).expect(&rt, "a number");
-        let inhabited = shapes.inhabited(number);
-        let several = shapes.has_several(number);
-        let answer = format!(in alloc; "{inhabited:?} {several:?}").expect(&rt, "memory");
-        assert_eq!(rt; answer.as_str(), *wanted, "{text}");
-        let written = write(alloc, &shape(&rt, alloc, text)).expect(&rt, "a tree");
-        let written = to_text(alloc, &written).expect(&rt, "a text");
-        let expanded = expanded(&rt, alloc, &shapes, number);
-        assert_eq!(rt; expanded.as_str(), written.as_str(), "{text}");
+        let number = added(&rt, alloc, &mut shapes, text);
+        expect_text(
+            &rt,
+            kinds_told(&rt, alloc, &shapes, number),
+            wanted,
+            &[text],
+        );
     }
     let nowhere = shapes.len();
-    assert_eq!(rt; shapes.has_several(nowhere), None);
+    assert!(rt; shapes.has_several(nowhere).is_none());
+}
+
+/// The shape of the number that is given to a shape is written as that shape is.
+fn expect_expanded(rt: &impl Abort, alloc: Global, shapes: &mut Shapes, text: &str) {
+    let number = added(rt, alloc, shapes, text);
+    let wanted = written(rt, alloc, &shape(rt, alloc, text));
+    expect_text(rt, expanded(rt, alloc, shapes, number), &wanted, &[text]);
+}
+
+#[test]
+fn several_kinds_are_expanded(rt: HostRuntime) {
+    let alloc = rt.alloc();
+    let mut shapes = Shapes::new(alloc);
+    for (text, _) in &TOLD {
+        expect_expanded(&rt, alloc, &mut shapes, text);
+    }
 }
 
 /// Two shapes, whether the first is inside the second, and the second inside the first.
@@ -735,22 +1033,27 @@ const COMPARED: [(&str, &str, bool, bool); 6] = [
     ),
 ];
 
+/// The two shapes compare twice as it is wanted.
+fn expect_compared_twice(
+    rt: &impl Abort,
+    alloc: Global,
+    shapes: &mut Shapes,
+    given: [&str; 2],
+    wanted: [bool; 2],
+) {
+    let [left, right] = given;
+    let first = added(rt, alloc, shapes, left);
+    let second = added(rt, alloc, shapes, right);
+    expect_compared(rt, shapes, [first, second], wanted, &given);
+    expect_compared(rt, shapes, [first, second], wanted, &given);
+}
+
 #[test]
 fn several_kinds_are_compared(rt: HostRuntime) {
     let alloc = rt.alloc();
     let mut shapes = Shapes::new(alloc);
     for (left, right, forth, back) in &COMPARED {
-        let first = shapes.add(&shape(&rt, alloc, left)).expect(&rt, "a number");
-        let second = shapes
-            .add(&shape(&rt, alloc, right))
-            .expect(&rt, "a number");
-        for _ in 0..2 {
-            assert_eq!(rt;
-                compared(&rt, &mut shapes, first, second),
-                [Some(*forth), Some(*back)],
-                "{left} {right}"
-            );
-        }
+        expect_compared_twice(&rt, alloc, &mut shapes, [left, right], [*forth, *back]);
     }
 }
 
@@ -763,7 +1066,7 @@ fn shape_read(
 ) -> String {
     match answer {
         Ok(number) => expanded(rt, alloc, shapes, number),
-        Err(refusal) => format!(in alloc; "{refusal:?}").expect(rt, "memory"),
+        Err(refusal) => printed(rt, alloc, &refusal),
     }
 }
 
@@ -809,30 +1112,29 @@ const OF_KINDS: [(&str, &str, &str); 7] = [
 #[test]
 fn lists_of_types_over_given_shapes(rt: HostRuntime) {
     let alloc = rt.alloc();
-    let mut shapes = Shapes::new(alloc);
-    let int = shapes.add(&Shape::Int).expect(&rt, "a number");
-    for (text, wanted, of_first) in &OF_KINDS {
-        let tree = asl_tree::read(alloc, text.as_bytes()).expect(&rt, "a tree");
-        let value = asl_tree::to_value(alloc, &tree).expect(&rt, "a value");
-        assert!(rt; int < shapes.len());
-        let answer = shapes.read_with(&tree, Some(&[int]));
-        assert!(rt; int < shapes.len());
-        let again = shapes.read_value_with(&value, Some(&[int]));
-        assert_eq!(rt; answer, again, "{text}");
-        assert_eq!(rt;
-            shape_read(&rt, alloc, &shapes, answer).as_str(),
-            *wanted,
-            "{text}"
+    let mut shapes = integers(&rt, alloc);
+    for (text, wanted, _) in &OF_KINDS {
+        let answer = read_over(&rt, alloc, &mut shapes, text, 0);
+        expect_text(
+            &rt,
+            shape_read(&rt, alloc, &shapes, answer),
+            wanted,
+            &[text],
         );
-        assert!(rt; int < shapes.len());
-        let answer = shapes.read_with_v1(&tree, Some(&[int]));
-        assert!(rt; int < shapes.len());
-        let again = shapes.read_value_with_v1(&value, Some(&[int]));
-        assert_eq!(rt; answer, again, "{text}");
-        assert_eq!(rt;
-            shape_read(&rt, alloc, &shapes, answer).as_str(),
-            *of_first,
-            "{text}"
+    }
+}
+
+#[test]
+fn lists_of_types_in_the_first_version(rt: HostRuntime) {
+    let alloc = rt.alloc();
+    let mut shapes = integers(&rt, alloc);
+    for (text, _, wanted) in &OF_KINDS {
+        let answer = read_over_v1(&rt, alloc, &mut shapes, text, 0);
+        expect_text(
+            &rt,
+            shape_read(&rt, alloc, &shapes, answer),
+            wanted,
+            &[text],
         );
     }
 }

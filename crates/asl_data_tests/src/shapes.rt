@@ -1,10 +1,12 @@
 //! Vectors for shapes: what each spelling reads as, the tests of shapes on a few pairs, which trees show what shapes say,
 //! and what is copied, written and joined, each call once with ample memory.
+use crate::expecting::{expect_answer, expect_text};
 use asl_shape::{
     OwnedKinds, Shape, ShapeRefusal, copy, example, has, inhabited, join, of_kinds, outside,
     proper, read, read_v1, read_value, read_value_v1, same, sub, take_apart, write,
 };
 use asl_tree::{Tree, to_text, to_value};
+use serde_json::Value;
 use std::alloc::Global;
 use std::process::Abort;
 
@@ -385,41 +387,124 @@ fn shape(rt: &impl Abort, alloc: Global, text: &str) -> Shape {
     read(alloc, &tree(rt, alloc, text)).expect(rt, "a shape")
 }
 
+/// The JSON value in the text.
+fn value(rt: &impl Abort, alloc: Global, text: &str) -> Value {
+    to_value(alloc, &tree(rt, alloc, text)).expect(rt, "a value")
+}
+
+/// The compact text of the tree that is written for the shape.
+fn written(rt: &impl Abort, alloc: Global, shape: &Shape) -> String {
+    let tree = write(alloc, shape).expect(rt, "a tree");
+    to_text(alloc, &tree).expect(rt, "a text")
+}
+
+/// Whether the spelling is refused for this reason.
+fn is_refused(rt: &impl Abort, alloc: Global, text: &str, refusal: &ShapeRefusal) -> bool {
+    read(alloc, &tree(rt, alloc, text)).err().as_ref() == Some(refusal)
+}
+
 #[test]
-fn answers_as_worked_out_by_hand(rt: HostRuntime) {
+fn spellings_are_refused(rt: HostRuntime) {
     let alloc = rt.alloc();
     for (text, refusal) in &REFUSED {
-        let refused = read(alloc, &tree(&rt, alloc, text)).err();
-        assert!(rt; refused.as_ref() == Some(refusal), "{text}");
+        expect_answer(&rt, is_refused(&rt, alloc, text, refusal), true, &[text]);
     }
+}
+
+/// Whether the tree has the shape.
+fn is_member(rt: &impl Abort, alloc: Global, text: &str, member: &str) -> bool {
+    has(&shape(rt, alloc, text), &tree(rt, alloc, member))
+}
+
+#[test]
+fn members_by_hand(rt: HostRuntime) {
+    let alloc = rt.alloc();
     for (text, member, answer) in &MEMBERS {
-        let answered = has(&shape(&rt, alloc, text), &tree(&rt, alloc, member));
-        assert_eq!(rt; answered, *answer, "{text} {member}");
+        expect_answer(
+            &rt,
+            is_member(&rt, alloc, text, member),
+            *answer,
+            &[text, member],
+        );
     }
+}
+
+#[test]
+fn inhabited_by_hand(rt: HostRuntime) {
+    let alloc = rt.alloc();
     for (text, answer) in &INHABITED {
-        assert_eq!(rt; inhabited(&shape(&rt, alloc, text)), *answer, "{text}");
+        expect_answer(&rt, inhabited(&shape(&rt, alloc, text)), *answer, &[text]);
     }
+}
+
+/// Whether the first shape is inside the second.
+fn is_inside(rt: &impl Abort, alloc: Global, inner: &str, outer: &str) -> bool {
+    sub(&shape(rt, alloc, inner), &shape(rt, alloc, outer))
+}
+
+#[test]
+fn inside_by_hand(rt: HostRuntime) {
+    let alloc = rt.alloc();
     for (inner, outer, answer) in &INSIDE {
-        let answered = sub(&shape(&rt, alloc, inner), &shape(&rt, alloc, outer));
-        assert_eq!(rt; answered, *answer, "{inner} {outer}");
+        expect_answer(
+            &rt,
+            is_inside(&rt, alloc, inner, outer),
+            *answer,
+            &[inner, outer],
+        );
     }
+}
+
+/// Whether the two shapes are the same.
+fn is_same(rt: &impl Abort, alloc: Global, first: &str, second: &str) -> bool {
+    same(&shape(rt, alloc, first), &shape(rt, alloc, second))
+}
+
+#[test]
+fn different_shapes(rt: HostRuntime) {
+    let alloc = rt.alloc();
     for (first, second) in &DIFFERENT {
-        let answered = same(&shape(&rt, alloc, first), &shape(&rt, alloc, second));
-        assert!(rt; !answered, "{first} {second}");
+        expect_answer(
+            &rt,
+            is_same(&rt, alloc, first, second),
+            false,
+            &[first, second],
+        );
     }
+}
+
+/// What is written for a copy of the shape, which is the same.
+fn written_of_copy(rt: &impl Abort, alloc: Global, text: &str) -> String {
+    let given = shape(rt, alloc, text);
+    let copied = copy(alloc, &given).expect(rt, "a copy");
+    expect_answer(rt, same(&copied, &given), true, &[text]);
+    written(rt, alloc, &copied)
+}
+
+#[test]
+fn copies_are_written(rt: HostRuntime) {
+    let alloc = rt.alloc();
     for (text, written) in &WRITTEN {
-        let given = shape(&rt, alloc, text);
-        let copied = copy(alloc, &given).expect(&rt, "a copy");
-        assert!(rt; same(&copied, &given), "{text}");
-        let tree = write(alloc, &copied).expect(&rt, "a tree");
-        let answered = to_text(alloc, &tree).expect(&rt, "a text");
-        assert_eq!(rt; answered.as_str(), *written, "{text}");
+        expect_text(&rt, written_of_copy(&rt, alloc, text), written, &[text]);
     }
+}
+
+/// The join of the two shapes.
+fn joined(rt: &impl Abort, alloc: Global, first: &str, second: &str) -> Shape {
+    join(alloc, &shape(rt, alloc, first), &shape(rt, alloc, second)).expect(rt, "a join")
+}
+
+/// What is written for the join of the two shapes is the wanted text.
+fn expect_joined(rt: &impl Abort, alloc: Global, first: &str, second: &str, wanted: &str) {
+    let told = written(rt, alloc, &joined(rt, alloc, first, second));
+    expect_text(rt, told, wanted, &[first, second]);
+}
+
+#[test]
+fn joins_by_hand(rt: HostRuntime) {
+    let alloc = rt.alloc();
     for (first, second, written) in &JOINED {
-        let joined = join(alloc, &shape(&rt, alloc, first), &shape(&rt, alloc, second));
-        let tree = write(alloc, &joined.expect(&rt, "a join")).expect(&rt, "a tree");
-        let answered = to_text(alloc, &tree).expect(&rt, "a text");
-        assert_eq!(rt; answered.as_str(), *written, "{first} {second}");
+        expect_joined(&rt, alloc, first, second, written);
     }
 }
 
@@ -638,34 +723,91 @@ fn text_of(rt: &impl Abort, alloc: Global, tree: &Option<Tree>) -> String {
     }
 }
 
+/// The shape's example, if it is inhabited.
+fn example_in(rt: &impl Abort, alloc: Global, given: &Shape) -> Option<Tree> {
+    example(alloc, given).expect(rt, "an answer")
+}
+
 #[test]
-fn examples_as_worked_out_by_hand(rt: HostRuntime) {
+fn examples_by_hand(rt: HostRuntime) {
     let alloc = rt.alloc();
     for (text, wanted) in &EXAMPLES {
-        let given = shape(&rt, alloc, text);
-        let tree = example(alloc, &given).expect(&rt, "an answer");
-        assert_eq!(rt; text_of(&rt, alloc, &tree).as_str(), *wanted, "{text}");
-        assert_eq!(rt; tree.is_some(), inhabited(&given), "{text}");
-        if let Some(tree) = tree {
-            assert!(rt; has(&given, &tree), "{text}");
-        }
+        let tree = example_in(&rt, alloc, &shape(&rt, alloc, text));
+        expect_text(&rt, text_of(&rt, alloc, &tree), wanted, &[text]);
     }
+}
+
+/// Whether a tree is there just if the shape is inhabited, and then has it.
+fn is_example(given: &Shape, tree: &Option<Tree>) -> bool {
+    match tree {
+        Some(tree) => inhabited(given) && has(given, tree),
+        None => !inhabited(given),
+    }
+}
+
+/// Whether that holds of the shape's example.
+fn has_example(rt: &impl Abort, alloc: Global, text: &str) -> bool {
+    let given = shape(rt, alloc, text);
+    is_example(&given, &example_in(rt, alloc, &given))
+}
+
+#[test]
+fn examples_have_their_shapes(rt: HostRuntime) {
+    let alloc = rt.alloc();
+    for (text, _) in &EXAMPLES {
+        expect_answer(&rt, has_example(&rt, alloc, text), true, &[text]);
+    }
+}
+
+/// A value of the first shape that lacks the second, if there is one.
+fn outside_of(rt: &impl Abort, alloc: Global, inner: &Shape, outer: &Shape) -> Option<Tree> {
+    outside(alloc, inner, outer).expect(rt, "an answer")
+}
+
+/// The text of that value, or `none`, is the wanted one.
+fn expect_outside(rt: &impl Abort, alloc: Global, first: &str, second: &str, wanted: &str) {
+    let tree = outside_of(
+        rt,
+        alloc,
+        &shape(rt, alloc, first),
+        &shape(rt, alloc, second),
+    );
+    expect_text(rt, text_of(rt, alloc, &tree), wanted, &[first, second]);
+}
+
+#[test]
+fn values_outside_by_hand(rt: HostRuntime) {
+    let alloc = rt.alloc();
     for (first, second, wanted) in &OUTSIDE {
-        let inner = shape(&rt, alloc, first);
-        let outer = shape(&rt, alloc, second);
-        let tree = outside(alloc, &inner, &outer).expect(&rt, "an answer");
-        assert_eq!(rt;
-            text_of(&rt, alloc, &tree).as_str(),
-            *wanted,
-            "{first} {second}"
+        expect_outside(&rt, alloc, first, second, wanted);
+    }
+}
+
+/// Whether a tree is there just if the first shape isn't inside the second, and then has the first and lacks the second.
+fn is_outside(inner: &Shape, outer: &Shape, tree: &Option<Tree>) -> bool {
+    match tree {
+        Some(tree) => !sub(inner, outer) && has(inner, tree) && !has(outer, tree),
+        None => sub(inner, outer),
+    }
+}
+
+/// Whether that holds of the value that is told of the two shapes.
+fn has_outside(rt: &impl Abort, alloc: Global, first: &str, second: &str) -> bool {
+    let inner = shape(rt, alloc, first);
+    let outer = shape(rt, alloc, second);
+    is_outside(&inner, &outer, &outside_of(rt, alloc, &inner, &outer))
+}
+
+#[test]
+fn values_outside_tell_shapes_apart(rt: HostRuntime) {
+    let alloc = rt.alloc();
+    for (first, second, _) in &OUTSIDE {
+        expect_answer(
+            &rt,
+            has_outside(&rt, alloc, first, second),
+            true,
+            &[first, second],
         );
-        assert_eq!(rt; tree.is_none(), sub(&inner, &outer), "{first} {second}");
-        if let Some(tree) = tree {
-            assert!(rt;
-                has(&inner, &tree) && !has(&outer, &tree),
-                "{first} {second}"
-            );
-        }
     }
 }
 
@@ -693,28 +835,74 @@ const FIRST_VERSION: [(&str, Option<ShapeRefusal>); 8] = [
     ),
 ];
 
+/// Whether the spelling in a tree is read in the first version of certificates, or refused for this reason.
+fn is_answered_v1(
+    rt: &impl Abort,
+    alloc: Global,
+    text: &str,
+    refusal: &Option<ShapeRefusal>,
+) -> bool {
+    read_v1(alloc, &tree(rt, alloc, text)).err() == *refusal
+}
+
+/// The same of the spelling in a JSON value.
+fn is_value_answered_v1(
+    rt: &impl Abort,
+    alloc: Global,
+    text: &str,
+    refusal: &Option<ShapeRefusal>,
+) -> bool {
+    read_value_v1(alloc, &value(rt, alloc, text)).err() == *refusal
+}
+
 #[test]
 fn lists_of_types_by_version(rt: HostRuntime) {
     let alloc = rt.alloc();
     for (text, refusal) in &FIRST_VERSION {
-        let tree = tree(&rt, alloc, text);
-        let value = to_value(alloc, &tree).expect(&rt, "a value");
-        match (read_v1(alloc, &tree), read_value_v1(alloc, &value), refusal) {
-            (Ok(shape), Ok(again), None) => {
-                let other = read(alloc, &tree).expect(&rt, "a shape");
-                assert!(rt; same(&shape, &other) && same(&again, &other), "{text}");
-            }
-            (Err(told), Err(again), Some(wanted)) => {
-                assert!(rt; told == *wanted && again == *wanted, "{text}");
-            }
-            _ => assert!(rt; false, "{text}"),
+        expect_answer(
+            &rt,
+            is_answered_v1(&rt, alloc, text, refusal),
+            true,
+            &[text],
+        );
+        expect_answer(
+            &rt,
+            is_value_answered_v1(&rt, alloc, text, refusal),
+            true,
+            &[text],
+        );
+    }
+}
+
+/// Whether the shape in a tree is the same in the first version of certificates.
+fn is_read_alike(rt: &impl Abort, alloc: Global, text: &str) -> bool {
+    let first = read_v1(alloc, &tree(rt, alloc, text)).expect(rt, "a shape");
+    same(&first, &shape(rt, alloc, text))
+}
+
+/// The same of the shape in a JSON value.
+fn is_value_read_alike(rt: &impl Abort, alloc: Global, text: &str) -> bool {
+    let first = read_value_v1(alloc, &value(rt, alloc, text)).expect(rt, "a shape");
+    same(&first, &shape(rt, alloc, text))
+}
+
+#[test]
+fn shapes_of_the_first_version(rt: HostRuntime) {
+    let alloc = rt.alloc();
+    for (text, refusal) in &FIRST_VERSION {
+        if refusal.is_none() {
+            expect_answer(&rt, is_read_alike(&rt, alloc, text), true, &[text]);
+            expect_answer(&rt, is_value_read_alike(&rt, alloc, text), true, &[text]);
         }
     }
-    let tree = tree(&rt, alloc, r#"{"type":["string","null"]}"#);
-    let value = to_value(alloc, &tree).expect(&rt, "a value");
-    let of_tree = read(alloc, &tree).expect(&rt, "a shape");
-    let of_value = read_value(alloc, &value).expect(&rt, "a shape");
-    assert!(rt; same(&of_tree, &of_value));
+}
+
+#[test]
+fn values_are_read_as_trees(rt: HostRuntime) {
+    let alloc = rt.alloc();
+    let text = r#"{"type":["string","null"]}"#;
+    let of_value = read_value(alloc, &value(&rt, alloc, text)).expect(&rt, "a shape");
+    assert!(rt; same(&shape(&rt, alloc, text), &of_value));
 }
 
 /// The shape with these parts.
@@ -766,33 +954,57 @@ const PROPER: [(&[&str], bool); 14] = [
     ),
 ];
 
+/// Whether a copy of the shape with these parts is proper.
+fn is_copy_proper(rt: &impl Abort, alloc: Global, texts: &[&str]) -> bool {
+    proper(&copy(alloc, &several(rt, alloc, texts)).expect(rt, "a copy"))
+}
+
+/// Whether the shape of lists of the shape with these parts is proper.
+fn is_list_proper(rt: &impl Abort, alloc: Global, texts: &[&str]) -> bool {
+    let rest = Box::new(alloc, several(rt, alloc, texts)).expect(rt, "memory");
+    let first = Vec::new(alloc);
+    proper(&Shape::List { first, rest })
+}
+
 #[test]
-fn proper_shapes(rt: HostRuntime) {
+fn proper_parts(rt: HostRuntime) {
     let alloc = rt.alloc();
     for (texts, answer) in &PROPER {
-        let given = several(&rt, alloc, texts);
-        assert_eq!(rt; proper(&given), *answer);
-        let copied = copy(alloc, &given).expect(&rt, "a copy");
-        assert!(rt; proper(&copied));
-        let outer = Shape::List {
-            first: Vec::new(alloc),
-            rest: Box::new(alloc, given).expect(&rt, "memory"),
-        };
-        assert_eq!(rt; proper(&outer), *answer);
-    }
-    for (text, _) in &WRITTEN {
-        assert!(rt; proper(&shape(&rt, alloc, text)), "{text}");
-    }
-    for (first, second, _) in &JOINED {
-        let joined = join(alloc, &shape(&rt, alloc, first), &shape(&rt, alloc, second));
-        assert!(rt; proper(&joined.expect(&rt, "a join")), "{first} {second}");
+        expect_answer(&rt, proper(&several(&rt, alloc, texts)), *answer, texts);
+        expect_answer(&rt, is_copy_proper(&rt, alloc, texts), true, texts);
+        expect_answer(&rt, is_list_proper(&rt, alloc, texts), *answer, texts);
     }
 }
 
+#[test]
+fn read_shapes_are_proper(rt: HostRuntime) {
+    let alloc = rt.alloc();
+    for (text, _) in &WRITTEN {
+        expect_answer(&rt, proper(&shape(&rt, alloc, text)), true, &[text]);
+    }
+}
+
+#[test]
+fn joins_are_proper(rt: HostRuntime) {
+    let alloc = rt.alloc();
+    for (first, second, _) in &JOINED {
+        expect_answer(
+            &rt,
+            proper(&joined(&rt, alloc, first, second)),
+            true,
+            &[first, second],
+        );
+    }
+}
+
+/// What is written for the shape of these simple kinds.
+fn written_of_kinds(rt: &impl Abort, alloc: Global, owned: OwnedKinds) -> String {
+    written(rt, alloc, &of_kinds(alloc, owned).expect(rt, "a shape"))
+}
+
 /// The simple kinds of a shape put together again.
-fn simple_part(rt: &impl Abort, alloc: Global, text: &str) -> String {
-    let given = shape(rt, alloc, text);
-    let Some(kinds) = take_apart(&given) else {
+fn simple_part(rt: &impl Abort, alloc: Global, given: &Shape) -> String {
+    let Some(kinds) = take_apart(given) else {
         return String::from_str(alloc, "every tree").expect(rt, "memory");
     };
     let owned = OwnedKinds {
@@ -803,34 +1015,38 @@ fn simple_part(rt: &impl Abort, alloc: Global, text: &str) -> String {
         arrays: None,
         objects: None,
     };
-    let tree = write(alloc, &of_kinds(alloc, owned).expect(rt, "a shape")).expect(rt, "a tree");
-    to_text(alloc, &tree).expect(rt, "a text")
+    written_of_kinds(rt, alloc, owned)
 }
+
+/// A shape, and its simple kinds put together again.
+const SIMPLE_PARTS: [(&str, &str); 6] = [
+    ("true", "every tree"),
+    ("false", "false"),
+    (r#"{"type":"array"}"#, "false"),
+    (r#"{"type":["array","null"]}"#, r#"{"type":"null"}"#),
+    (
+        r#"{"type":["string","object","integer"]}"#,
+        r#"{"type":["integer","string"]}"#,
+    ),
+    (
+        r#"{"type":["null","string","boolean","integer"]}"#,
+        r#"{"type":["boolean","integer","null","string"]}"#,
+    ),
+];
 
 #[test]
 fn shapes_are_taken_apart(rt: HostRuntime) {
     let alloc = rt.alloc();
-    for &(text, wanted) in &[
-        ("true", "every tree"),
-        ("false", "false"),
-        (r#"{"type":"array"}"#, "false"),
-        (r#"{"type":["array","null"]}"#, r#"{"type":"null"}"#),
-        (
-            r#"{"type":["string","object","integer"]}"#,
-            r#"{"type":["integer","string"]}"#,
-        ),
-        (
-            r#"{"type":["null","string","boolean","integer"]}"#,
-            r#"{"type":["boolean","integer","null","string"]}"#,
-        ),
-    ] {
-        assert_eq!(rt; simple_part(&rt, alloc, text).as_str(), wanted, "{text}");
+    for (text, wanted) in &SIMPLE_PARTS {
+        let told = simple_part(&rt, alloc, &shape(&rt, alloc, text));
+        expect_text(&rt, told, wanted, &[text]);
     }
-    let given = shape(
-        &rt,
-        alloc,
-        r#"{"type":["array","object","null"],"items":{"type":"integer"},"required":["a"]}"#,
-    );
+}
+
+#[test]
+fn arrays_and_objects_are_taken_apart(rt: HostRuntime) {
+    let text = r#"{"type":["array","object","null"],"items":{"type":"integer"},"required":["a"]}"#;
+    let given = shape(&rt, rt.alloc(), text);
     let kinds = take_apart(&given).expect(&rt, "kinds");
     let arrays = kinds.arrays.expect(&rt, "lists");
     let objects = kinds.objects.expect(&rt, "objects");

@@ -1,62 +1,79 @@
 //! Shapes through a state by number: what comes through, or all doubts why it may not, each call once with ample memory.
-use crate::flows::{shape, state, template, test};
+use crate::given::{number_of, pass, path, settings, template_or_none, test};
+use crate::told::{expect_text, owned, tree_text, written_at};
+use asl_choice::Test;
 use asl_flow::{
     Cause, Doubt, DoubtfulPath, Flow, Found, effective_at, find_at, item_input_at, let_through_at,
     missing_at, output_at,
 };
 use asl_numbered::Shapes;
-use asl_path::{parse, print};
-use asl_shape::write;
-use asl_states::Kind;
-use asl_tree::to_text;
+use asl_path::print;
+use asl_states::{Settings, State};
+use asl_template::Template;
 use std::alloc::Global;
 use std::process::Abort;
 
-/// The shape of that number as it is written.
-fn written_at(rt: &impl Abort, alloc: Global, shapes: &Shapes, number: usize) -> String {
-    let shape = shapes.expand(number).expect(rt, "memory");
-    let tree = write(alloc, &shape.expect(rt, "a shape of the table"));
-    to_text(alloc, &tree.expect(rt, "a tree")).expect(rt, "a text")
+/// A path that may name nothing, the number of the first segment where that may be so, and that shape.
+fn doubtful_in(rt: &impl Abort, alloc: Global, path: DoubtfulPath<'_>, shape: &str) -> String {
+    let (text, segment) = (print(alloc, path.path).expect(rt, "a text"), path.segment);
+    format!(in alloc; "{text} {segment} {shape}").expect(rt, "memory")
 }
 
 /// A path that may name nothing, the number of the first segment where that may be so, and the shape that it goes into.
 fn doubtful(rt: &impl Abort, alloc: Global, shapes: &Shapes, path: DoubtfulPath<'_>) -> String {
-    let (text, segment) = (print(alloc, path.path).expect(rt, "a text"), path.segment);
-    let shape = written_at(rt, alloc, shapes, path.shape);
-    format!(in alloc; "{text} {segment} {shape}").expect(rt, "memory")
+    doubtful_in(rt, alloc, path, &written_at(rt, alloc, shapes, path.shape))
+}
+
+/// The cause of a doubt.
+fn cause_text(rt: &impl Abort, alloc: Global, shapes: &Shapes, cause: Cause<'_>) -> String {
+    match cause {
+        Cause::MayBeMissing(path) => doubtful(rt, alloc, shapes, path),
+        Cause::MayFail => owned(rt, alloc, "MayFail"),
+        Cause::MayNotFit => owned(rt, alloc, "MayNotFit"),
+    }
 }
 
 /// The field and the name of a doubt, and its cause.
 fn doubt_text(rt: &impl Abort, alloc: Global, shapes: &Shapes, doubt: &Doubt<'_>) -> String {
     let (field, name) = (doubt.field, doubt.name);
-    let cause = match doubt.cause {
-        Cause::MayBeMissing(path) => doubtful(rt, alloc, shapes, path),
-        Cause::MayFail => String::from_str(alloc, "MayFail").expect(rt, "memory"),
-        Cause::MayNotFit => String::from_str(alloc, "MayNotFit").expect(rt, "memory"),
-    };
+    let cause = cause_text(rt, alloc, shapes, doubt.cause);
     format!(in alloc; "{field} {name:?} {cause}\n").expect(rt, "memory")
+}
+
+/// Adds a line for the doubt.
+fn add_doubt(
+    rt: &impl Abort,
+    alloc: Global,
+    shapes: &Shapes,
+    text: &mut String,
+    doubt: &Doubt<'_>,
+) {
+    let line = doubt_text(rt, alloc, shapes, doubt);
+    text.push_str(&line).expect(rt, "memory");
+}
+
+/// A line for each doubt.
+fn doubts_text(rt: &impl Abort, alloc: Global, shapes: &Shapes, doubts: &[Doubt<'_>]) -> String {
+    let mut text = String::new(alloc);
+    for doubt in doubts {
+        add_doubt(rt, alloc, shapes, &mut text, doubt);
+    }
+    text
 }
 
 /// The shape that comes through, or a line for each doubt.
 fn flow_text(rt: &impl Abort, alloc: Global, shapes: &Shapes, flow: &Flow<'_>) -> String {
     match flow {
         Ok(number) => written_at(rt, alloc, shapes, *number),
-        Err(doubts) => {
-            let mut text = String::new(alloc);
-            for doubt in doubts {
-                let line = doubt_text(rt, alloc, shapes, doubt);
-                text.push_str(&line).expect(rt, "memory");
-            }
-            text
-        }
+        Err(doubts) => doubts_text(rt, alloc, shapes, doubts),
     }
 }
 
 /// The shape that is found, or the doubtful path.
-fn found_text(rt: &impl Abort, alloc: Global, shapes: &Shapes, found: &Found<'_>) -> String {
+fn found_text(rt: &impl Abort, alloc: Global, shapes: &Shapes, found: Found<'_>) -> String {
     match found {
-        Ok(number) => written_at(rt, alloc, shapes, *number),
-        Err(path) => doubtful(rt, alloc, shapes, *path),
+        Ok(number) => written_at(rt, alloc, shapes, number),
+        Err(path) => doubtful(rt, alloc, shapes, path),
     }
 }
 
@@ -84,24 +101,40 @@ const NAMED: [(&str, &str, &str); 4] = [
     ),
 ];
 
+/// What the path leads to in the shape of that number, or the doubtful path.
+fn found(rt: &impl Abort, alloc: Global, shapes: &mut Shapes, number: usize, text: &str) -> String {
+    let path = path(rt, alloc, text);
+    assert!(*rt; number < shapes.len());
+    let found = find_at(shapes, number, &path).expect(rt, "memory");
+    found_text(rt, alloc, shapes, found)
+}
+
+/// A value of the shape of that number in which the path names nothing, or `none`.
+fn missing(
+    rt: &impl Abort,
+    alloc: Global,
+    shapes: &mut Shapes,
+    number: usize,
+    text: &str,
+) -> String {
+    let path = path(rt, alloc, text);
+    assert!(*rt; number < shapes.len());
+    match missing_at(alloc, shapes, number, &path).expect(rt, "memory") {
+        Some(tree) => tree_text(rt, alloc, &tree),
+        None => owned(rt, alloc, "none"),
+    }
+}
+
 #[test]
 fn paths_by_number(rt: HostRuntime) {
     let alloc = rt.alloc();
     let mut shapes = Shapes::new(alloc);
-    let number = shapes.add(&shape(&rt, alloc, NESTED)).expect(&rt, "memory");
-    for (text, named, missing) in &NAMED {
-        let path = parse(alloc, text).expect(&rt, "a path");
-        assert!(rt; number < shapes.len());
-        let found = find_at(&mut shapes, number, &path).expect(&rt, "memory");
-        let answer = found_text(&rt, alloc, &shapes, &found);
-        assert_eq!(rt; answer.as_str(), *named, "at {text}");
-        assert!(rt; number < shapes.len());
-        let tree = missing_at(alloc, &mut shapes, number, &path).expect(&rt, "memory");
-        let answer = match tree {
-            Some(tree) => to_text(alloc, &tree).expect(&rt, "a text"),
-            None => String::from_str(alloc, "none").expect(&rt, "memory"),
-        };
-        assert_eq!(rt; answer.as_str(), *missing, "at {text}");
+    let number = number_of(&rt, alloc, &mut shapes, NESTED);
+    for (text, wanted, absent) in &NAMED {
+        let named = found(&rt, alloc, &mut shapes, number, text);
+        expect_text(&rt, named, wanted, &[text]);
+        let tree = missing(&rt, alloc, &mut shapes, number, text);
+        expect_text(&rt, tree, absent, &[text]);
     }
 }
 
@@ -130,17 +163,33 @@ const LET_THROUGH: [(&str, &str, &str); 4] = [
     ),
 ];
 
+/// The shape of the trees of that number's shape for which the rule is true, or the path that is doubtful first.
+fn let_through_in(
+    rt: &impl Abort,
+    alloc: Global,
+    shapes: &mut Shapes,
+    number: usize,
+    rule: &Test,
+) -> String {
+    assert!(*rt; number < shapes.len());
+    let found = let_through_at(alloc, shapes, rule, number).expect(rt, "memory");
+    found_text(rt, alloc, shapes, found)
+}
+
+/// The shape of its trees for which the rule with these fields is true, or the path that is doubtful first.
+fn let_through(rt: &impl Abort, alloc: Global, fields: &str, given: &str) -> String {
+    let mut shapes = Shapes::new(alloc);
+    let number = number_of(rt, alloc, &mut shapes, given);
+    let rule = test(rt, alloc, fields);
+    let_through_in(rt, alloc, &mut shapes, number, &rule)
+}
+
 #[test]
 fn rules_by_number(rt: HostRuntime) {
     let alloc = rt.alloc();
     for (fields, given, wanted) in &LET_THROUGH {
-        let mut shapes = Shapes::new(alloc);
-        let number = shapes.add(&shape(&rt, alloc, given)).expect(&rt, "memory");
-        let rule = test(&rt, alloc, fields);
-        assert!(rt; number < shapes.len());
-        let found = let_through_at(alloc, &mut shapes, &rule, number).expect(&rt, "memory");
-        let answer = found_text(&rt, alloc, &shapes, &found);
-        assert_eq!(rt; answer.as_str(), *wanted, "at {fields} on {given}");
+        let told = let_through(&rt, alloc, fields, given);
+        expect_text(&rt, told, wanted, &[fields, given]);
     }
 }
 
@@ -167,24 +216,33 @@ const ENTERED: [(&str, &str, &str, &str); 4] = [
     ("$.k", r#"{"p.$":"$.q"}"#, "false", "false"),
 ];
 
+/// What the settings make of the raw input of that number, or the doubts.
+fn effective_in(
+    rt: &impl Abort,
+    alloc: Global,
+    shapes: &mut Shapes,
+    settings: &Settings,
+    raw: usize,
+) -> String {
+    assert!(*rt; raw < shapes.len());
+    let flow = effective_at(alloc, shapes, settings, raw).expect(rt, "memory");
+    flow_text(rt, alloc, shapes, &flow)
+}
+
+/// What `InputPath` and `Parameters` make of the raw input, or the doubts.
+fn effective(rt: &impl Abort, alloc: Global, entering: (&str, &str), raw: &str) -> String {
+    let mut shapes = Shapes::new(alloc);
+    let raw = number_of(rt, alloc, &mut shapes, raw);
+    let settings = settings(rt, alloc, entering, ("", "$", "$"));
+    effective_in(rt, alloc, &mut shapes, &settings, raw)
+}
+
 #[test]
 fn effective_inputs_by_number(rt: HostRuntime) {
     let alloc = rt.alloc();
     for (input_path, parameters, raw, wanted) in &ENTERED {
-        let mut shapes = Shapes::new(alloc);
-        let raw = shapes.add(&shape(&rt, alloc, raw)).expect(&rt, "memory");
-        let kind = Kind::Pass { result: None };
-        let mut pass = state(&rt, alloc, kind, ("", "$", "$"));
-        pass.settings.input_path = Some(parse(alloc, input_path).expect(&rt, "a path"));
-        pass.settings.parameters = Some(template(&rt, alloc, parameters));
-        assert!(rt; raw < shapes.len());
-        let flow = effective_at(alloc, &mut shapes, &pass.settings, raw).expect(&rt, "memory");
-        let answer = flow_text(&rt, alloc, &shapes, &flow);
-        assert_eq!(rt;
-            answer.as_str(),
-            *wanted,
-            "at {input_path} and {parameters}"
-        );
+        let told = effective(&rt, alloc, (input_path, parameters), raw);
+        expect_text(&rt, told, wanted, &[input_path, parameters]);
     }
 }
 
@@ -201,25 +259,35 @@ const SELECTED: [(&str, &str); 3] = [
     ),
 ];
 
+/// What the selector makes of the shapes of these numbers, or the doubts.
+fn item_input_in(
+    rt: &impl Abort,
+    alloc: Global,
+    shapes: &mut Shapes,
+    selector: &Option<Template>,
+    effective: usize,
+    element: usize,
+) -> String {
+    assert!(*rt; effective < shapes.len());
+    assert!(*rt; element < shapes.len());
+    let flow = item_input_at(alloc, shapes, selector, effective, element).expect(rt, "memory");
+    flow_text(rt, alloc, shapes, &flow)
+}
+
+/// What the selector makes of objects and of texts as the items, or the doubts.
+fn item_input(rt: &impl Abort, alloc: Global, selector: &str) -> String {
+    let mut shapes = Shapes::new(alloc);
+    let effective = number_of(rt, alloc, &mut shapes, r#"{"type":"object"}"#);
+    let element = number_of(rt, alloc, &mut shapes, r#"{"type":"string"}"#);
+    let selector = template_or_none(rt, alloc, selector);
+    item_input_in(rt, alloc, &mut shapes, &selector, effective, element)
+}
+
 #[test]
 fn item_inputs_by_number(rt: HostRuntime) {
     let alloc = rt.alloc();
     for (selector, wanted) in &SELECTED {
-        let mut shapes = Shapes::new(alloc);
-        let objects = shape(&rt, alloc, r#"{"type":"object"}"#);
-        let effective = shapes.add(&objects).expect(&rt, "memory");
-        let texts = shape(&rt, alloc, r#"{"type":"string"}"#);
-        let element = shapes.add(&texts).expect(&rt, "memory");
-        let item_selector = if selector.is_empty() {
-            None
-        } else {
-            Some(template(&rt, alloc, selector))
-        };
-        assert!(rt; effective < shapes.len());
-        assert!(rt; element < shapes.len());
-        let flow = item_input_at(alloc, &mut shapes, &item_selector, effective, element);
-        let answer = flow_text(&rt, alloc, &shapes, &flow.expect(&rt, "memory"));
-        assert_eq!(rt; answer.as_str(), *wanted, "at {selector}");
+        expect_text(&rt, item_input(&rt, alloc, selector), wanted, &[selector]);
     }
 }
 
@@ -252,18 +320,41 @@ const LEFT: [((&str, &str, &str), &str, &str, &str); 4] = [
     ),
 ];
 
+/// What the state makes of the raw input and the result of these numbers, or the doubts.
+fn output_in(
+    rt: &impl Abort,
+    alloc: Global,
+    shapes: &mut Shapes,
+    state: &State,
+    raw: usize,
+    work: usize,
+) -> String {
+    assert!(*rt; raw < shapes.len());
+    assert!(*rt; work < shapes.len());
+    let flow = output_at(alloc, shapes, state, raw, work).expect(rt, "memory");
+    flow_text(rt, alloc, shapes, &flow)
+}
+
+/// What a Pass with these fields makes of its raw input and its result, or the doubts.
+fn output(
+    rt: &impl Abort,
+    alloc: Global,
+    fields: (&str, &str, &str),
+    raw: &str,
+    work: &str,
+) -> String {
+    let mut shapes = Shapes::new(alloc);
+    let raw = number_of(rt, alloc, &mut shapes, raw);
+    let work = number_of(rt, alloc, &mut shapes, work);
+    let pass = pass(rt, alloc, "", fields);
+    output_in(rt, alloc, &mut shapes, &pass, raw, work)
+}
+
 #[test]
 fn outputs_by_number(rt: HostRuntime) {
     let alloc = rt.alloc();
-    for &(fields, raw, work, wanted) in &LEFT {
-        let mut shapes = Shapes::new(alloc);
-        let raw = shapes.add(&shape(&rt, alloc, raw)).expect(&rt, "memory");
-        let work = shapes.add(&shape(&rt, alloc, work)).expect(&rt, "memory");
-        let pass = state(&rt, alloc, Kind::Pass { result: None }, fields);
-        assert!(rt; raw < shapes.len());
-        assert!(rt; work < shapes.len());
-        let flow = output_at(alloc, &mut shapes, &pass, raw, work).expect(&rt, "memory");
-        let answer = flow_text(&rt, alloc, &shapes, &flow);
-        assert_eq!(rt; answer.as_str(), wanted);
+    for (fields, raw, work, wanted) in &LEFT {
+        let told = output(&rt, alloc, *fields, raw, work);
+        expect_text(&rt, told, wanted, &[raw, work]);
     }
 }

@@ -1,42 +1,21 @@
 //! Shapes through a state: what paths name, or where they may name nothing, what is put, what templates give and rules let
 //! through, and what leaves a state, each call once with ample memory.
-use asl_choice::{Test, from_tree};
+use crate::given::{number_of, pass, path, settings, shape, template, test, tree};
+use crate::told::{
+    expect_answer, expect_text, missing_text, owned, printed, showing, tree_text, written,
+    written_at,
+};
 use asl_flow::{
     FlowFault, RuleShapeRefusal, TemplateShapeRefusal, leave, leave_at, literal_shape, look,
     missing, put, rule_shape, template_shape, template_shape_at,
 };
 use asl_numbered::Shapes;
-use asl_path::{RefPath, parse};
-use asl_shape::{Shape, has, read, write};
-use asl_states::{Kind, Settings, State};
-use asl_template::Template;
-use asl_tree::{Tree, to_text};
+use asl_path::{RefPath, find};
+use asl_shape::{Shape, has};
+use asl_states::{Kind, State};
+use asl_tree::Tree;
 use std::alloc::Global;
 use std::process::Abort;
-
-/// The shape that the JSON text spells.
-pub(crate) fn shape(rt: &impl Abort, alloc: Global, text: &str) -> Shape {
-    let tree = asl_tree::read(alloc, text.as_bytes()).expect(rt, "a tree");
-    read(alloc, &tree).expect(rt, "a shape")
-}
-
-/// The shape as it is written.
-fn written(rt: &impl Abort, alloc: Global, shape: &Shape) -> String {
-    to_text(alloc, &write(alloc, shape).expect(rt, "a tree")).expect(rt, "a text")
-}
-
-/// What is told, and behind a space the tree that shows it.
-fn showing(rt: &impl Abort, alloc: Global, told: &str, tree: &Tree) -> String {
-    let text = to_text(alloc, tree).expect(rt, "a text");
-    format!(in alloc; "{told} {text}").expect(rt, "memory")
-}
-
-/// The test of the rule that has these fields.
-pub(crate) fn test(rt: &impl Abort, alloc: Global, fields: &str) -> Test {
-    let text = format!(in alloc; "{{{fields},\"Next\":\"B\"}}").expect(rt, "memory");
-    let tree = asl_tree::read(alloc, text.as_bytes()).expect(rt, "a tree");
-    from_tree(alloc, &tree).expect(rt, "a rule").test
-}
 
 /// The fields of a rule, a shape, and the shape of its trees for which the rule is true, or the refusal.
 const TRUE_OF: [(&str, &str, &str); 38] = [
@@ -224,18 +203,29 @@ const TRUE_OF: [(&str, &str, &str); 38] = [
     ),
 ];
 
+/// Why a rule has no shape.
+fn rule_refusal(rt: &impl Abort, alloc: Global, refusal: &RuleShapeRefusal) -> String {
+    match refusal {
+        RuleShapeRefusal::MayBeMissing(tree) => showing(rt, alloc, "MayBeMissing", tree),
+        RuleShapeRefusal::OutOfMemory => printed(rt, alloc, refusal),
+    }
+}
+
+/// The shape of its trees for which the rule with these fields is true, or the refusal.
+fn narrowed(rt: &impl Abort, alloc: Global, fields: &str, given: &str) -> String {
+    let narrowed = rule_shape(alloc, &test(rt, alloc, fields), &shape(rt, alloc, given));
+    match narrowed {
+        Ok(shape) => written(rt, alloc, &shape),
+        Err(refusal) => rule_refusal(rt, alloc, &refusal),
+    }
+}
+
 #[test]
 fn rules(rt: HostRuntime) {
     let alloc = rt.alloc();
     for (fields, given, wanted) in &TRUE_OF {
-        let answer = match rule_shape(alloc, &test(&rt, alloc, fields), &shape(&rt, alloc, given)) {
-            Ok(narrowed) => written(&rt, alloc, &narrowed),
-            Err(RuleShapeRefusal::MayBeMissing(tree)) => {
-                showing(&rt, alloc, "MayBeMissing", &tree)
-            }
-            Err(refusal) => format!(in alloc; "{refusal:?}").expect(&rt, "memory"),
-        };
-        assert_eq!(rt; answer.as_str(), *wanted, "at {fields} on {given}");
+        let told = narrowed(&rt, alloc, fields, given);
+        expect_text(&rt, told, wanted, &[fields, given]);
     }
 }
 
@@ -438,10 +428,22 @@ const WITH_ITEM: [(&str, &str, &str, &str); 7] = [
     ),
 ];
 
-/// The template that the JSON text spells, in which paths to an item may stand.
-pub(crate) fn template(rt: &impl Abort, alloc: Global, text: &str) -> Template {
-    let tree = asl_tree::read(alloc, text.as_bytes()).expect(rt, "a tree");
-    asl_template::from_tree(alloc, &tree, true).expect(rt, "a template")
+/// Why a template has no shape.
+fn template_refusal(rt: &impl Abort, alloc: Global, refusal: &TemplateShapeRefusal) -> String {
+    match refusal {
+        TemplateShapeRefusal::MayBeMissing(name, tree) => missing_text(rt, alloc, name, tree),
+        TemplateShapeRefusal::MayFail(_) | TemplateShapeRefusal::OutOfMemory => {
+            printed(rt, alloc, refusal)
+        }
+    }
+}
+
+/// The shape that the text spells, where there is one.
+fn shape_or_none(rt: &impl Abort, alloc: Global, text: Option<&str>) -> Option<Shape> {
+    match text {
+        Some(text) => Some(shape(rt, alloc, text)),
+        None => None,
+    }
 }
 
 /// The shape of the template's value as it is written, or the refusal.
@@ -454,17 +456,10 @@ fn filled(
 ) -> String {
     let template = template(rt, alloc, spelling);
     let input = shape(rt, alloc, input);
-    let answer = match item {
-        Some(text) => template_shape(alloc, &template, &input, Some(&shape(rt, alloc, text))),
-        None => template_shape(alloc, &template, &input, None),
-    };
-    match answer {
+    let item = shape_or_none(rt, alloc, item);
+    match template_shape(alloc, &template, &input, item.as_ref()) {
         Ok(filled) => written(rt, alloc, &filled),
-        Err(TemplateShapeRefusal::MayBeMissing(name, tree)) => {
-            let told = format!(in alloc; "MayBeMissing({name:?})").expect(rt, "memory");
-            showing(rt, alloc, &told, &tree)
-        }
-        Err(refusal) => format!(in alloc; "{refusal:?}").expect(rt, "memory"),
+        Err(refusal) => template_refusal(rt, alloc, &refusal),
     }
 }
 
@@ -472,8 +467,8 @@ fn filled(
 fn templates(rt: HostRuntime) {
     let alloc = rt.alloc();
     for (spelling, input, wanted) in &FILLED {
-        let answer = filled(&rt, alloc, spelling, input, None);
-        assert_eq!(rt; answer.as_str(), *wanted, "at {spelling} on {input}");
+        let told = filled(&rt, alloc, spelling, input, None);
+        expect_text(&rt, told, wanted, &[spelling, input]);
     }
 }
 
@@ -481,12 +476,8 @@ fn templates(rt: HostRuntime) {
 fn templates_with_an_item(rt: HostRuntime) {
     let alloc = rt.alloc();
     for (spelling, input, item, wanted) in &WITH_ITEM {
-        let answer = filled(&rt, alloc, spelling, input, Some(item));
-        assert_eq!(rt;
-            answer.as_str(),
-            *wanted,
-            "at {spelling} on {input} and {item}"
-        );
+        let told = filled(&rt, alloc, spelling, input, Some(item));
+        expect_text(&rt, told, wanted, &[spelling, input, item]);
     }
 }
 
@@ -500,17 +491,17 @@ const LITERALS: [(&str, &str); 3] = [
     ),
 ];
 
+/// The shape of the value as it is written.
+fn literal(rt: &impl Abort, alloc: Global, value: &str) -> String {
+    let shape = literal_shape(alloc, &tree(rt, alloc, value)).expect(rt, "a shape");
+    written(rt, alloc, &shape)
+}
+
 #[test]
 fn literals(rt: HostRuntime) {
     let alloc = rt.alloc();
     for (value, wanted) in &LITERALS {
-        let tree = asl_tree::read(alloc, value.as_bytes()).expect(&rt, "a tree");
-        let answer = written(
-            &rt,
-            alloc,
-            &literal_shape(alloc, &tree).expect(&rt, "a shape"),
-        );
-        assert_eq!(rt; answer.as_str(), *wanted, "at {value}");
+        expect_text(&rt, literal(&rt, alloc, value), wanted, &[value]);
     }
 }
 
@@ -682,28 +673,51 @@ const MISSING: [(&str, &str, &str); 22] = [
     ),
 ];
 
+/// The tree is the one that is wanted: it has the shape, though not each tree of the shape has something that the path
+/// names, and it has nothing that it names.
+fn expect_shown(
+    rt: &impl Abort,
+    alloc: Global,
+    shape: &Shape,
+    steps: &RefPath,
+    tree: &Tree,
+    row: &(&str, &str, &str),
+) {
+    let (given, path, wanted) = row;
+    expect_text(rt, tree_text(rt, alloc, tree), wanted, &[path, given]);
+    expect_answer(rt, look(alloc, shape, steps).is_err(), true, &[path, given]);
+    expect_answer(rt, has(shape, tree), true, &[path, given]);
+    expect_answer(rt, find(tree, steps).is_none(), true, &[path, given]);
+}
+
+/// No tree is wanted, and each tree of the shape has something that the path names.
+fn expect_named(
+    rt: &impl Abort,
+    alloc: Global,
+    shape: &Shape,
+    steps: &RefPath,
+    row: &(&str, &str, &str),
+) {
+    let (given, path, wanted) = row;
+    expect_text(rt, owned(rt, alloc, "none"), wanted, &[path, given]);
+    expect_answer(rt, look(alloc, shape, steps).is_ok(), true, &[path, given]);
+}
+
+/// Where the path may name nothing in a tree of the shape, a tree shows it, and else there is none.
+fn expect_missing(rt: &impl Abort, alloc: Global, row: &(&str, &str, &str)) {
+    let given = shape(rt, alloc, row.0);
+    let steps = path(rt, alloc, row.1);
+    match missing(alloc, &given, &steps).expect(rt, "an answer") {
+        Some(tree) => expect_shown(rt, alloc, &given, &steps, &tree, row),
+        None => expect_named(rt, alloc, &given, &steps, row),
+    }
+}
+
 #[test]
 fn missing_parts(rt: HostRuntime) {
     let alloc = rt.alloc();
-    for (given, path, wanted) in &MISSING {
-        let steps = parse(alloc, path).expect(&rt, "a path");
-        let given_shape = shape(&rt, alloc, given);
-        let named = look(alloc, &given_shape, &steps);
-        let Some(tree) = missing(alloc, &given_shape, &steps).expect(&rt, "an answer") else {
-            assert_eq!(rt; *wanted, "none", "at {path} in {given}");
-            assert!(rt; named.is_ok(), "at {path} in {given}");
-            continue;
-        };
-        let answer = to_text(alloc, &tree).expect(&rt, "a text");
-        assert_eq!(rt; answer.as_str(), *wanted, "at {path} in {given}");
-        assert!(rt;
-            named.is_err() && has(&given_shape, &tree),
-            "at {path} in {given}"
-        );
-        assert!(rt;
-            asl_path::find(&tree, &steps).is_none(),
-            "at {path} in {given}"
-        );
+    for row in &MISSING {
+        expect_missing(&rt, alloc, row);
     }
 }
 
@@ -828,72 +842,45 @@ const PUT: [(&str, &str, &str, &str); 22] = [
     ),
 ];
 
+/// The shape of what the path names as it is written, or the refusal.
+fn named(rt: &impl Abort, alloc: Global, given: &str, text: &str) -> String {
+    let named = look(alloc, &shape(rt, alloc, given), &path(rt, alloc, text));
+    match named {
+        Ok(found) => written(rt, alloc, &found),
+        Err(refusal) => printed(rt, alloc, &refusal),
+    }
+}
+
 #[test]
-fn paths(rt: HostRuntime) {
+fn named_parts(rt: HostRuntime) {
     let alloc = rt.alloc();
     for (given, path, wanted) in &NAMED {
-        let answer = match look(
-            alloc,
-            &shape(&rt, alloc, given),
-            &parse(alloc, path).expect(&rt, "a path"),
-        ) {
-            Ok(found) => written(&rt, alloc, &found),
-            Err(refusal) => format!(in alloc; "{refusal:?}").expect(&rt, "memory"),
-        };
-        assert_eq!(rt; answer.as_str(), *wanted, "at {path} in {given}");
+        expect_text(&rt, named(&rt, alloc, given, path), wanted, &[path, given]);
     }
+}
+
+/// The shape with another put where the path leads as it is written, or the refusal.
+fn changed(rt: &impl Abort, alloc: Global, given: &str, text: &str, placed: &str) -> String {
+    let steps = path(rt, alloc, text);
+    let changed = put(
+        alloc,
+        &shape(rt, alloc, given),
+        &steps,
+        &shape(rt, alloc, placed),
+    );
+    match changed {
+        Ok(changed) => written(rt, alloc, &changed),
+        Err(refusal) => printed(rt, alloc, &refusal),
+    }
+}
+
+#[test]
+fn changed_parts(rt: HostRuntime) {
+    let alloc = rt.alloc();
     for (given, path, placed, wanted) in &PUT {
-        let steps = parse(alloc, path).expect(&rt, "a path");
-        let answer = match put(
-            alloc,
-            &shape(&rt, alloc, given),
-            &steps,
-            &shape(&rt, alloc, placed),
-        ) {
-            Ok(changed) => written(&rt, alloc, &changed),
-            Err(refusal) => format!(in alloc; "{refusal:?}").expect(&rt, "memory"),
-        };
-        assert_eq!(rt; answer.as_str(), *wanted, "at {path} in {given}");
+        let told = changed(&rt, alloc, given, path, placed);
+        expect_text(&rt, told, wanted, &[path, given]);
     }
-}
-
-/// The path that a text spells, none where there is no text.
-fn path_or_null(rt: &impl Abort, alloc: Global, text: &str) -> Option<RefPath> {
-    if text.is_empty() {
-        None
-    } else {
-        Some(parse(alloc, text).expect(rt, "a path"))
-    }
-}
-
-/// A state with that `ResultSelector`, `ResultPath` and `OutputPath`; no text is none and null.
-pub(crate) fn state(
-    rt: &impl Abort,
-    alloc: Global,
-    kind: Kind,
-    fields: (&str, &str, &str),
-) -> State {
-    let (selector, result_path, output_path) = fields;
-    let result_selector = if selector.is_empty() {
-        None
-    } else {
-        Some(template(rt, alloc, selector))
-    };
-    let settings = Settings {
-        input_path: Some(parse(alloc, "$").expect(rt, "a path")),
-        parameters: None,
-        result_selector,
-        result_path: path_or_null(rt, alloc, result_path),
-        output_path: path_or_null(rt, alloc, output_path),
-        next: None,
-        retriers: Vec::new(alloc),
-        catchers: Vec::new(alloc),
-        timeout_seconds: None,
-        heartbeat_seconds: None,
-        max_concurrency: 0,
-        comment: None,
-    };
-    State { settings, kind }
 }
 
 /// `ResultSelector`, `ResultPath` and `OutputPath` of a Pass, the shapes of its raw input and of its result, and the
@@ -962,77 +949,113 @@ const OUTPUTS: [((&str, &str, &str), &str, &str, &str); 11] = [
     (("", "$", "$.b"), "false", "true", "false"),
 ];
 
+/// Why a state's output may not come about.
+fn fault_text(rt: &impl Abort, alloc: Global, fault: &FlowFault) -> String {
+    match fault {
+        FlowFault::MayBeMissing(field, tree) => missing_text(rt, alloc, field, tree),
+        FlowFault::MayFail(_) | FlowFault::MayNotFit(_) | FlowFault::OutOfMemory => {
+            printed(rt, alloc, fault)
+        }
+    }
+}
+
+/// The shape of the state's output as it is written, or the fault.
+fn left(rt: &impl Abort, alloc: Global, state: &State, raw: &str, work: &str) -> String {
+    let output = leave(
+        alloc,
+        state,
+        &shape(rt, alloc, raw),
+        &shape(rt, alloc, work),
+    );
+    match output {
+        Ok(output) => written(rt, alloc, &output),
+        Err(fault) => fault_text(rt, alloc, &fault),
+    }
+}
+
+/// The shape of the output of a Pass with these fields as it is written, or the fault.
+fn pass_left(
+    rt: &impl Abort,
+    alloc: Global,
+    fields: (&str, &str, &str),
+    raw: &str,
+    work: &str,
+) -> String {
+    left(rt, alloc, &pass(rt, alloc, "", fields), raw, work)
+}
+
 #[test]
 fn outputs(rt: HostRuntime) {
     let alloc = rt.alloc();
-    for &(fields, raw, work, wanted) in &OUTPUTS {
-        let pass = state(&rt, alloc, Kind::Pass { result: None }, fields);
-        let answer = match leave(
-            alloc,
-            &pass,
-            &shape(&rt, alloc, raw),
-            &shape(&rt, alloc, work),
-        ) {
-            Ok(output) => written(&rt, alloc, &output),
-            Err(FlowFault::MayBeMissing(field, tree)) => {
-                let told = format!(in alloc; "MayBeMissing({field:?})").expect(&rt, "memory");
-                showing(&rt, alloc, &told, &tree)
-            }
-            Err(fault) => format!(in alloc; "{fault:?}").expect(&rt, "memory"),
-        };
-        assert_eq!(rt; answer.as_str(), wanted);
+    for (fields, raw, work, wanted) in &OUTPUTS {
+        let told = pass_left(&rt, alloc, *fields, raw, work);
+        expect_text(&rt, told, wanted, &[raw, work]);
     }
+}
 
-    // Nothing leaves a Fail, and of a Succeed's effective input `OutputPath` alone makes the output.
-    let integer = shape(&rt, alloc, r#"{"type":"integer"}"#);
+/// An integer.
+const INTEGER: &str = r#"{"type":"integer"}"#;
+
+/// What leaves a state of that type, with that `ResultPath`, of an integer.
+fn left_of(rt: &impl Abort, alloc: Global, kind: Kind, result_path: &str) -> String {
+    let settings = settings(rt, alloc, ("$", ""), ("", result_path, "$"));
+    left(rt, alloc, &State { settings, kind }, INTEGER, INTEGER)
+}
+
+#[test]
+fn nothing_leaves_a_fail(rt: HostRuntime) {
+    let alloc = rt.alloc();
     let failing = Kind::Fail {
         error: String::new(alloc),
         cause: String::new(alloc),
     };
-    let output = leave(
-        alloc,
-        &state(&rt, alloc, failing, ("", "$", "$")),
-        &integer,
-        &integer,
-    )
-    .expect(&rt, "a shape");
-    assert_eq!(rt; written(&rt, alloc, &output).as_str(), "false");
-    let succeeding = state(&rt, alloc, Kind::Succeed, ("", "$.a", "$"));
-    let output = leave(alloc, &succeeding, &integer, &integer).expect(&rt, "a shape");
-    assert_eq!(rt;
-        written(&rt, alloc, &output).as_str(),
-        r#"{"type":"integer"}"#
-    );
+    expect_text(&rt, left_of(&rt, alloc, failing, "$"), "false", &["a Fail"]);
 }
 
-/// What a Pass without a result of its own gives for a raw input, by number: the result is what its `Parameters` give.
-fn given_by_number(rt: &impl Abort, alloc: Global, pass: &State, raw: &Shape) -> Shape {
-    let mut shapes = Shapes::new(alloc);
-    let raw = shapes.add(raw).expect(rt, "memory");
-    assert!(rt; raw < shapes.len());
+/// Of a Succeed's effective input `OutputPath` alone makes the output.
+#[test]
+fn no_result_is_placed_in_a_succeed(rt: HostRuntime) {
+    let told = left_of(&rt, rt.alloc(), Kind::Succeed, "$.a");
+    expect_text(&rt, told, INTEGER, &["a Succeed"]);
+}
+
+/// The number of what a Pass without a result of its own gives for a raw input: the result is what its `Parameters` give.
+fn output_number(
+    rt: &impl Abort,
+    alloc: Global,
+    shapes: &mut Shapes,
+    pass: &State,
+    raw: usize,
+) -> usize {
+    assert!(*rt; raw < shapes.len());
     let parameters = pass.settings.parameters.as_ref().expect(rt, "a template");
-    let work = template_shape_at(alloc, &mut shapes, parameters, raw, None).expect(rt, "a shape");
-    assert!(rt; raw < shapes.len());
-    assert!(rt; work < shapes.len());
-    let output = leave_at(alloc, &mut shapes, pass, raw, work).expect(rt, "a shape");
-    let output = shapes.expand(output).expect(rt, "memory");
-    output.expect(rt, "a shape of the table")
+    let work = template_shape_at(alloc, shapes, parameters, raw, None).expect(rt, "a shape");
+    assert!(*rt; raw < shapes.len());
+    assert!(*rt; work < shapes.len());
+    leave_at(alloc, shapes, pass, raw, work).expect(rt, "a shape")
+}
+
+/// What a Pass without a result of its own gives for a raw input, by number.
+fn given_by_number(rt: &impl Abort, alloc: Global, pass: &State, raw: &str) -> String {
+    let mut shapes = Shapes::new(alloc);
+    let raw = number_of(rt, alloc, &mut shapes, raw);
+    let output = output_number(rt, alloc, &mut shapes, pass, raw);
+    written_at(rt, alloc, &shapes, output)
 }
 
 #[test]
 fn outputs_by_number(rt: HostRuntime) {
     let alloc = rt.alloc();
-    let kind = Kind::Pass { result: None };
-    let mut pass = state(&rt, alloc, kind, ("", "$.box.out", "$.box"));
-    pass.settings.parameters = Some(template(&rt, alloc, r#"{"m.$":"$.n","k":true}"#));
-    let raw = shape(
+    let parameters = r#"{"m.$":"$.n","k":true}"#;
+    let pass = pass(&rt, alloc, parameters, ("", "$.box.out", "$.box"));
+    let raw =
+        r#"{"type":"object","properties":{"n":{"type":"integer"},"box":{"type":"object","properties":{"a":{"type":"string"}},"additionalProperties":false}},"required":["n","box"],"additionalProperties":false}"#;
+    let wanted =
+        r#"{"additionalProperties":false,"properties":{"a":{"type":"string"},"out":{"additionalProperties":false,"properties":{"k":{"type":"boolean"},"m":{"type":"integer"}},"required":["k","m"],"type":"object"}},"required":["out"],"type":"object"}"#;
+    expect_text(
         &rt,
-        alloc,
-        r#"{"type":"object","properties":{"n":{"type":"integer"},"box":{"type":"object","properties":{"a":{"type":"string"}},"additionalProperties":false}},"required":["n","box"],"additionalProperties":false}"#,
-    );
-    let output = given_by_number(&rt, alloc, &pass, &raw);
-    assert_eq!(rt;
-        written(&rt, alloc, &output).as_str(),
-        r#"{"additionalProperties":false,"properties":{"a":{"type":"string"},"out":{"additionalProperties":false,"properties":{"k":{"type":"boolean"},"m":{"type":"integer"}},"required":["k","m"],"type":"object"}},"required":["out"],"type":"object"}"#
+        given_by_number(&rt, alloc, &pass, raw),
+        wanted,
+        &["a Pass"],
     );
 }

@@ -8,3 +8,7 @@
 mod doubts;
 #[cfg(test)]
 mod flows;
+#[cfg(test)]
+mod given;
+#[cfg(test)]
+mod told;

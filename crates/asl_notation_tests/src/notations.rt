@@ -5,36 +5,33 @@ use asl_shape::Shape;
 use asl_tree::read;
 use std::alloc::Global;
 use std::process::Abort;
-use std::test::Fail;
 
 /// Limits beyond every shape of these tests.
 const AMPLE: Limits = Limits { depth: 9, width: 9 };
 
 /// The notation of the shape that the JSON text spells.
-fn noted(alloc: Global, spelling: &str, limits: Limits) -> Result<String, Fail> {
-    let tree = read(alloc, spelling.as_bytes())?;
+fn noted(rt: &impl Abort, alloc: Global, spelling: &str, limits: Limits) -> String {
+    let tree = read(alloc, spelling.as_bytes()).expect(rt, "a tree");
     let mut shapes = Shapes::new(alloc);
-    let number = shapes.read_with(&tree, None)?;
-    Ok(note(alloc, &shapes, number, limits)?)
+    let number = shapes.read_with(&tree, None).expect(rt, "a number");
+    note(alloc, &shapes, number, limits).expect(rt, "a notation")
 }
 
-/// Compares the notation of each spelling's shape with the one that is wanted.
-fn are_noted(
-    rt: &impl Abort,
-    alloc: Global,
-    limits: Limits,
-    rows: &[(&str, &str)],
-) -> Result<(), Fail> {
+/// The notation is the one that is wanted of the spelling.
+fn expect_text(rt: &impl Abort, told: String, wanted: &str, spelling: &str) {
+    assert_eq!(*rt; told.as_str(), wanted, "{spelling}");
+}
+
+/// The notation of each spelling's shape is the one that is wanted.
+fn are_noted(rt: &impl Abort, alloc: Global, rows: &[(&str, &str)]) {
     for (spelling, wanted) in rows {
-        let text = noted(alloc, spelling, limits)?;
-        assert_eq!(rt; text.as_str(), *wanted);
+        expect_text(rt, noted(rt, alloc, spelling, AMPLE), wanted, spelling);
     }
-    Ok(())
 }
 
 #[test]
-fn simple_kinds(rt: HostRuntime) -> Result<(), Fail> {
-    let rows = [
+fn simple_kinds(rt: HostRuntime) {
+    let rows = &[
         (r#"true"#, "any"),
         (r#"false"#, "nothing"),
         (r#"{"type":"null"}"#, "null"),
@@ -42,12 +39,12 @@ fn simple_kinds(rt: HostRuntime) -> Result<(), Fail> {
         (r#"{"type":"integer"}"#, "integer"),
         (r#"{"type":"string"}"#, "string"),
     ];
-    are_noted(&rt, rt.alloc(), AMPLE, &rows)
+    are_noted(&rt, rt.alloc(), rows);
 }
 
 #[test]
-fn lists(rt: HostRuntime) -> Result<(), Fail> {
-    let rows = [
+fn lists(rt: HostRuntime) {
+    let rows = &[
         (r#"{"type":"array"}"#, "[..any]"),
         (r#"{"type":"array","items":false}"#, "[]"),
         (
@@ -71,12 +68,12 @@ fn lists(rt: HostRuntime) -> Result<(), Fail> {
             "[..string | null]",
         ),
     ];
-    are_noted(&rt, rt.alloc(), AMPLE, &rows)
+    are_noted(&rt, rt.alloc(), rows);
 }
 
 #[test]
-fn objects(rt: HostRuntime) -> Result<(), Fail> {
-    let rows = [
+fn objects(rt: HostRuntime) {
+    let rows = &[
         (r#"{"type":"object"}"#, "{..}"),
         (r#"{"type":"object","additionalProperties":false}"#, "{}"),
         (
@@ -97,12 +94,12 @@ fn objects(rt: HostRuntime) -> Result<(), Fail> {
             "nothing",
         ),
     ];
-    are_noted(&rt, rt.alloc(), AMPLE, &rows)
+    are_noted(&rt, rt.alloc(), rows);
 }
 
 #[test]
-fn several_kinds_stand_in_one_order(rt: HostRuntime) -> Result<(), Fail> {
-    let rows = [
+fn several_kinds_stand_in_one_order(rt: HostRuntime) {
+    let rows = &[
         (r#"{"type":["string","null"]}"#, "string | null"),
         (
             r#"{"type":["null","object","array","string","integer","boolean"],"items":{"type":"integer"}}"#,
@@ -121,12 +118,12 @@ fn several_kinds_stand_in_one_order(rt: HostRuntime) -> Result<(), Fail> {
             "null",
         ),
     ];
-    are_noted(&rt, rt.alloc(), AMPLE, &rows)
+    are_noted(&rt, rt.alloc(), rows);
 }
 
 #[test]
-fn names_that_are_no_words_are_quoted(rt: HostRuntime) -> Result<(), Fail> {
-    let rows = [
+fn names_that_are_no_words_are_quoted(rt: HostRuntime) {
+    let rows = &[
         (
             r#"{"type":"object","properties":{"_a1":true}}"#,
             "{_a1?: any, ..}",
@@ -160,7 +157,7 @@ fn names_that_are_no_words_are_quoted(rt: HostRuntime) -> Result<(), Fail> {
             r#"{"…"?: any, ..}"#,
         ),
     ];
-    are_noted(&rt, rt.alloc(), AMPLE, &rows)
+    are_noted(&rt, rt.alloc(), rows);
 }
 
 /// An object with an object, a list and lists in a list.
@@ -172,98 +169,110 @@ const NESTED: &str = r#"{"type":"object","properties":{
     "f":{"type":"object"}},
     "required":["a"],"additionalProperties":false}"#;
 
+/// A depth, and the notation of that object to that depth.
+const BY_DEPTH: [(usize, &str); 4] = [
+    (0, "{…}"),
+    (1, "{a: {…}, c?: […], d?: integer | [], e?: {}, f?: {..}}"),
+    (
+        2,
+        "{a: {b: integer, ..}, c?: [..[…]], d?: integer | [], e?: {}, f?: {..}}",
+    ),
+    (
+        3,
+        "{a: {b: integer, ..}, c?: [..[..string | null]], d?: integer | [], e?: {}, f?: {..}}",
+    ),
+];
+
+/// The notation of that object to the depth.
+fn noted_to(rt: &impl Abort, alloc: Global, depth: usize) -> String {
+    noted(rt, alloc, NESTED, Limits { depth, width: 9 })
+}
+
 #[test]
-fn levels_below_the_depth_are_not_told(rt: HostRuntime) -> Result<(), Fail> {
+fn levels_below_the_depth_are_not_told(rt: HostRuntime) {
     let alloc = rt.alloc();
-    let width = 9;
-    for (depth, wanted) in [
-        (0, "{…}"),
-        (1, "{a: {…}, c?: […], d?: integer | [], e?: {}, f?: {..}}"),
-        (
-            2,
-            "{a: {b: integer, ..}, c?: [..[…]], d?: integer | [], e?: {}, f?: {..}}",
-        ),
-        (
-            3,
-            "{a: {b: integer, ..}, c?: [..[..string | null]], d?: integer | [], e?: {}, f?: {..}}",
-        ),
-    ] {
-        let text = noted(alloc, NESTED, Limits { depth, width })?;
-        assert_eq!(rt; text.as_str(), wanted);
+    for (depth, wanted) in &BY_DEPTH {
+        expect_text(&rt, noted_to(&rt, alloc, *depth), wanted, NESTED);
     }
-    Ok(())
 }
 
-#[test]
-fn what_is_beyond_the_width_is_not_told(rt: HostRuntime) -> Result<(), Fail> {
-    let list =
-        r#"{"type":"array","prefixItems":[{"type":"integer"},true,{"type":"null"}],"minItems":3,
+/// A list of three elements and further ones.
+const LIST: &str =
+    r#"{"type":"array","prefixItems":[{"type":"integer"},true,{"type":"null"}],"minItems":3,
         "items":{"type":"string"}}"#;
-    let object = r#"{"type":"object","properties":{"a":true,"b":true,"c":true}}"#;
-    let closed =
-        r#"{"type":"object","properties":{"a":true,"b":true},"additionalProperties":false}"#;
-    let depth = 1;
-    are_noted(
-        &rt,
-        rt.alloc(),
-        Limits { depth, width: 0 },
-        &[
-            (list, "[…, ..string]"),
-            (object, "{…, ..}"),
-            (closed, "{…}"),
-        ],
-    )?;
-    are_noted(
-        &rt,
-        rt.alloc(),
-        Limits { depth, width: 2 },
-        &[
-            (list, "[integer, any, …, ..string]"),
-            (object, "{a?: any, b?: any, …, ..}"),
-            (closed, "{a?: any, b?: any}"),
-        ],
-    )?;
-    are_noted(
-        &rt,
-        rt.alloc(),
-        Limits { depth, width: 3 },
-        &[
-            (list, "[integer, any, null, ..string]"),
-            (object, "{a?: any, b?: any, c?: any, ..}"),
-        ],
-    )
+
+/// An object of three fields and others.
+const OPEN: &str = r#"{"type":"object","properties":{"a":true,"b":true,"c":true}}"#;
+
+/// An object of two fields and no other.
+const CLOSED: &str =
+    r#"{"type":"object","properties":{"a":true,"b":true},"additionalProperties":false}"#;
+
+/// A width, a shape, and its notation within that width.
+const BY_WIDTH: [(usize, &str, &str); 8] = [
+    (0, LIST, "[…, ..string]"),
+    (0, OPEN, "{…, ..}"),
+    (0, CLOSED, "{…}"),
+    (2, LIST, "[integer, any, …, ..string]"),
+    (2, OPEN, "{a?: any, b?: any, …, ..}"),
+    (2, CLOSED, "{a?: any, b?: any}"),
+    (3, LIST, "[integer, any, null, ..string]"),
+    (3, OPEN, "{a?: any, b?: any, c?: any, ..}"),
+];
+
+/// The notation of the shape within the width.
+fn noted_within(rt: &impl Abort, alloc: Global, spelling: &str, width: usize) -> String {
+    noted(rt, alloc, spelling, Limits { depth: 1, width })
 }
 
-/// The numbers of a table of lists each of which has the one before it twice.
-fn doubled(alloc: Global, levels: usize) -> Result<(Shapes, usize), Fail> {
-    let mut shapes = Shapes::new(alloc);
-    let mut number = shapes.add(&Shape::Int)?;
-    for _ in 0..levels {
-        let mut first = Vec::new(alloc);
-        first.push(number)?;
-        first.push(number)?;
-        let list = Node::List {
-            first,
-            rest: number,
-        };
-        number = shapes.add_node(list)?.ok_or("a number")?;
+#[test]
+fn what_is_beyond_the_width_is_not_told(rt: HostRuntime) {
+    let alloc = rt.alloc();
+    for (width, spelling, wanted) in &BY_WIDTH {
+        expect_text(
+            &rt,
+            noted_within(&rt, alloc, spelling, *width),
+            wanted,
+            spelling,
+        );
     }
-    Ok((shapes, number))
+}
+
+/// The number of a list that begins with the shape of that number twice, and goes on with it.
+fn twice(rt: &impl Abort, alloc: Global, shapes: &mut Shapes, rest: usize) -> usize {
+    let mut first = Vec::new(alloc);
+    first.push(rest).expect(rt, "memory");
+    first.push(rest).expect(rt, "memory");
+    let added = shapes.add_node(Node::List { first, rest });
+    added.expect(rt, "memory").expect(rt, "a number")
+}
+
+/// The number of the last of so many lists each of which has the one before it twice.
+fn doubled(rt: &impl Abort, alloc: Global, shapes: &mut Shapes, levels: usize) -> usize {
+    let mut number = shapes.add(&Shape::Int).expect(rt, "memory");
+    for _ in 0..levels {
+        number = twice(rt, alloc, shapes, number);
+    }
+    number
 }
 
 #[test]
-fn shared_parts_cost_no_more_than_the_limits(rt: HostRuntime) -> Result<(), Fail> {
-    let (shapes, number) = doubled(rt.alloc(), 60)?;
+fn shared_parts_cost_no_more_than_the_limits(rt: HostRuntime) {
+    let mut shapes = Shapes::new(rt.alloc());
+    let number = doubled(&rt, rt.alloc(), &mut shapes, 60);
     let limits = Limits { depth: 2, width: 1 };
-    let text = note(rt.alloc(), &shapes, number, limits)?;
-    assert_eq!(rt; text.as_str(), "[[[…], …, ..[…]], …, ..[[…], …, ..[…]]]");
-    Ok(())
+    let text = note(rt.alloc(), &shapes, number, limits).expect(&rt, "a notation");
+    expect_text(
+        &rt,
+        text,
+        "[[[…], …, ..[…]], …, ..[[…], …, ..[…]]]",
+        "doubled",
+    );
 }
 
 #[test]
-fn a_number_without_a_shape_is_nothing(rt: HostRuntime) -> Result<(), Fail> {
+fn a_number_without_a_shape_is_nothing(rt: HostRuntime) {
     let shapes = Shapes::new(rt.alloc());
-    let text = note(rt.alloc(), &shapes, 0, AMPLE)?;
-    assert_eq!(rt; text.as_str(), "nothing");
-    Ok(())
+    let text = note(rt.alloc(), &shapes, 0, AMPLE).expect(&rt, "a notation");
+    expect_text(&rt, text, "nothing", "no shape");
 }

@@ -1,10 +1,13 @@
 //! Driven runs: in both orders, over answers from a list and from a source that wants memory, each call once with ample
 //! memory.
+use crate::expecting::{expect_text, printed};
 use crate::runs::Happening::{Fails, Gives};
 use crate::runs::{
     Happening, RESULT_DROPPED, RETRIED, TASK_FOR_EACH, TWO_TASKS, answer, ending, machine, started,
 };
-use asl_run::{Answer, Answers, Entry, First, Last, ListAnswers, Order, Stop, drive};
+use asl_run::{
+    Answer, Answers, DriveRefusal, Entry, First, Last, ListAnswers, Order, Run, Stop, drive,
+};
 use asl_tree::{OutOfMemory, Tree};
 use std::alloc::Global;
 use std::collections::VecDeque;
@@ -33,46 +36,73 @@ struct Drive {
     next: &'static str,
 }
 
+/// Puts the task's answer, where one happens, at the back of the list.
+fn add_answer(rt: &impl Abort, alloc: Global, list: &mut VecDeque<Answer>, happening: Happening) {
+    if let Some(answer) = answer(rt, alloc, happening) {
+        list.push_back(answer).expect(rt, "memory");
+    }
+}
+
 /// A source of these answers.
 fn source(rt: &impl Abort, alloc: Global, happenings: &[Happening]) -> ListAnswers {
     let mut list = VecDeque::new(alloc);
     for happening in happenings {
-        if let Some(answer) = answer(rt, alloc, *happening) {
-            list.push_back(answer).expect(rt, "memory");
-        }
+        add_answer(rt, alloc, &mut list, *happening);
     }
     ListAnswers::new(list)
 }
 
 /// Compares a trace with the lines that are wanted of it.
 fn compare(rt: &impl Abort, alloc: Global, trace: &[Entry], wanted: &[&'static str]) {
-    assert_eq!(rt; trace.len(), wanted.len());
+    assert_eq!(*rt; trace.len(), wanted.len());
     for (entry, line) in trace.iter().zip(wanted) {
-        let told = format!(in alloc; "{entry:?}").expect(rt, "memory");
-        assert_eq!(rt; told.as_str(), *line);
+        expect_text(rt, printed(rt, alloc, entry), line, &["in the trace"]);
     }
+}
+
+/// Why driving stops, and the trace of what has happened, where it isn't broken off.
+fn driven<O: Order, A: Answers>(
+    rt: &impl Abort,
+    run: &mut Run,
+    order: &mut O,
+    answers: &mut A,
+    max_steps: u64,
+) -> (Stop, Vec<Entry>) {
+    drive(run, order, answers, max_steps)
+        .ok()
+        .expect(rt, "the run was broken off")
+}
+
+/// The answer that the source gives next.
+fn next(rt: &impl Abort, alloc: Global, answers: &mut ListAnswers) -> String {
+    printed(
+        rt,
+        alloc,
+        &answers.next("", &Tree::Null).expect(rt, "memory"),
+    )
+}
+
+/// Drives a run in that order, and compares it with what is wanted of it.
+fn drive_one<O: Order>(rt: &impl Abort, alloc: Global, order: &mut O, wanted: &Drive) {
+    let machine = machine(rt, alloc, wanted.definition);
+    let mut run = started(rt, alloc, &machine, wanted.input);
+    let mut answers = source(rt, alloc, wanted.answers);
+    let (stop, trace) = driven(rt, &mut run, order, &mut answers, wanted.max_steps);
+    expect_text(rt, printed(rt, alloc, &stop), wanted.stop, &["the stop"]);
+    compare(rt, alloc, &trace, wanted.trace);
+    expect_text(rt, ending(rt, alloc, &run), wanted.ending, &["the ending"]);
+    expect_text(
+        rt,
+        next(rt, alloc, &mut answers),
+        wanted.next,
+        &["the next answer"],
+    );
 }
 
 /// Drives runs in that order, and compares each with what is wanted of it.
 fn drive_each<O: Order>(rt: &impl Abort, alloc: Global, order: &mut O, drives: &[Drive]) {
     for wanted in drives {
-        let machine = machine(rt, alloc, wanted.definition);
-        let mut run = started(rt, alloc, &machine, wanted.input);
-        let mut answers = source(rt, alloc, wanted.answers);
-        let (stop, trace) = drive(&mut run, order, &mut answers, wanted.max_steps)
-            .ok()
-            .expect(rt, "the run was broken off");
-        assert_eq!(rt;
-            format!(in alloc; "{stop:?}").expect(rt, "memory").as_str(),
-            wanted.stop
-        );
-        compare(rt, alloc, &trace, wanted.trace);
-        assert_eq!(rt; ending(rt, alloc, &run).as_str(), wanted.ending);
-        let next = answers.next("", &Tree::Null).expect(rt, "memory");
-        assert_eq!(rt;
-            format!(in alloc; "{next:?}").expect(rt, "memory").as_str(),
-            wanted.next
-        );
+        drive_one(rt, alloc, order, wanted);
     }
 }
 
@@ -338,12 +368,23 @@ const LAST: [Drive; 4] = [
 ];
 
 #[test]
-fn orders(rt: HostRuntime) {
-    let alloc = rt.alloc();
-    drive_each(&rt, alloc, &mut First, &ONE_WAY);
-    drive_each(&rt, alloc, &mut Last, &ONE_WAY);
-    drive_each(&rt, alloc, &mut First, &FIRST);
-    drive_each(&rt, alloc, &mut Last, &LAST)
+fn one_way_in_the_first_order(rt: HostRuntime) {
+    drive_each(&rt, rt.alloc(), &mut First, &ONE_WAY);
+}
+
+#[test]
+fn one_way_in_the_last_order(rt: HostRuntime) {
+    drive_each(&rt, rt.alloc(), &mut Last, &ONE_WAY);
+}
+
+#[test]
+fn the_first_place_takes_its_turn(rt: HostRuntime) {
+    drive_each(&rt, rt.alloc(), &mut First, &FIRST);
+}
+
+#[test]
+fn the_last_place_takes_its_turn(rt: HostRuntime) {
+    drive_each(&rt, rt.alloc(), &mut Last, &LAST);
 }
 
 /// A source whose second call wants memory.
@@ -388,6 +429,48 @@ const AFTER: [&str; 4] = [
     r#"Ended { at: [], outcome: Output(List([Int(1), Text("a")])) }"#,
 ];
 
+/// Driving was broken off after that trace, with no answer that was taken and not used.
+fn expect_broken_off(
+    rt: &impl Abort,
+    alloc: Global,
+    refusal: DriveRefusal,
+    wanted: &[&'static str],
+) {
+    compare(rt, alloc, &refusal.trace, wanted);
+    assert!(*rt; refusal.answer.is_none());
+}
+
+/// Drives the run by a source that wants memory, and compares the trace with what is wanted.
+fn break_off(
+    rt: &impl Abort,
+    alloc: Global,
+    run: &mut Run,
+    answers: &mut Scarce<ListAnswers>,
+    wanted: &[&'static str],
+) {
+    let refusal = drive(run, &mut First, answers, 1000).err();
+    expect_broken_off(rt, alloc, refusal.expect(rt, "no refusal"), wanted);
+}
+
+/// Driving stops for that reason.
+fn expect_stop(rt: &impl Abort, stop: Stop, wanted: Stop) {
+    assert_eq!(*rt; stop, wanted);
+}
+
+/// Drives the run further, and compares why it stops, and the trace, with what is wanted.
+fn go_on<O: Order, A: Answers>(
+    rt: &impl Abort,
+    alloc: Global,
+    run: &mut Run,
+    order: &mut O,
+    answers: &mut A,
+    wanted: (Stop, &[&'static str]),
+) {
+    let (stop, trace) = driven(rt, run, order, answers, 1000);
+    expect_stop(rt, stop, wanted.0);
+    compare(rt, alloc, &trace, wanted.1);
+}
+
 #[test]
 fn broken_off_and_gone_on(rt: HostRuntime) {
     let alloc = rt.alloc();
@@ -397,18 +480,11 @@ fn broken_off_and_gone_on(rt: HostRuntime) {
         answers: source(&rt, alloc, &[Gives("1"), Gives(r#""a""#)]),
         calls: 0,
     };
-    let refusal = drive(&mut run, &mut First, &mut answers, 1000)
-        .err()
-        .expect(&rt, "no refusal");
-    compare(&rt, alloc, &refusal.trace, &BEFORE);
-    assert!(rt; refusal.answer.is_none());
-    assert_eq!(rt; ending(&rt, alloc, &run).as_str(), "");
-    let (stop, trace) = drive(&mut run, &mut First, &mut answers, 1000)
-        .ok()
-        .expect(&rt, "the run was broken off");
-    assert_eq!(rt; stop, Stop::Output);
-    compare(&rt, alloc, &trace, &AFTER);
-    assert_eq!(rt; ending(&rt, alloc, &run).as_str(), r#"[1,"a"]"#);
+    break_off(&rt, alloc, &mut run, &mut answers, &BEFORE);
+    expect_text(&rt, ending(&rt, alloc, &run), "", &["broken off"]);
+    let wanted: (Stop, &[&'static str]) = (Stop::Output, &AFTER);
+    go_on(&rt, alloc, &mut run, &mut First, &mut answers, wanted);
+    expect_text(&rt, ending(&rt, alloc, &run), r#"[1,"a"]"#, &["gone on"]);
 }
 
 /// What is told of the first of two tasks, and of the second.
@@ -429,22 +505,20 @@ fn no_answer_at_the_place_whose_turn_it_is(rt: HostRuntime) {
     let machine = machine(&rt, alloc, TWO_TASKS);
     let mut run = started(&rt, alloc, &machine, "5");
     let mut answers = source(&rt, alloc, &[]);
-    let (stop, trace) = drive(&mut run, &mut First, &mut answers, 1000)
-        .ok()
-        .expect(&rt, "the run was broken off");
-    assert_eq!(rt; stop, Stop::NoAnswer(1));
-    compare(&rt, alloc, &trace, &FIRST_ASKED);
+    let first: (Stop, &[&'static str]) = (Stop::NoAnswer(1), &FIRST_ASKED);
+    go_on(&rt, alloc, &mut run, &mut First, &mut answers, first);
     // The first task still waits, and the second place goes on.
-    let (stop, trace) = drive(&mut run, &mut Last, &mut answers, 1000)
-        .ok()
-        .expect(&rt, "the run was broken off");
-    assert_eq!(rt; stop, Stop::NoAnswer(2));
-    compare(&rt, alloc, &trace, &SECOND_ASKED);
-    let (stop, trace) = drive(&mut run, &mut First, &mut answers, 1000)
-        .ok()
-        .expect(&rt, "the run was broken off");
-    assert_eq!(rt; stop, Stop::NoAnswer(1));
-    compare(&rt, alloc, &trace, &[]);
+    let second: (Stop, &[&'static str]) = (Stop::NoAnswer(2), &SECOND_ASKED);
+    go_on(&rt, alloc, &mut run, &mut Last, &mut answers, second);
+    let neither: (Stop, &[&'static str]) = (Stop::NoAnswer(1), &[]);
+    go_on(&rt, alloc, &mut run, &mut First, &mut answers, neither);
+}
+
+/// So many entries stand in the trace, and the last of them is printed so.
+fn expect_last(rt: &impl Abort, alloc: Global, trace: &[Entry], length: usize, wanted: &str) {
+    assert_eq!(*rt; trace.len(), length);
+    let last = trace.last().expect(rt, "an entry");
+    expect_text(rt, printed(rt, alloc, last), wanted, &["the last entry"]);
 }
 
 #[test]
@@ -453,14 +527,8 @@ fn many_steps_in_one_call(rt: HostRuntime) {
     let machine = machine(&rt, alloc, ENDLESS);
     let mut run = started(&rt, alloc, &machine, "7");
     let mut answers = source(&rt, alloc, &[]);
-    let (stop, trace) = drive(&mut run, &mut First, &mut answers, 1000)
-        .ok()
-        .expect(&rt, "the run was broken off");
-    assert_eq!(rt; stop, Stop::StepsSpent);
-    assert_eq!(rt; trace.len(), 2000);
-    let last = format!(in alloc; "{:?}", trace[1999]).expect(&rt, "memory");
-    assert_eq!(rt;
-        last.as_str(),
-        r#"Leave { at: [], state: "A", output: Int(7) }"#
-    );
+    let (stop, trace) = driven(&rt, &mut run, &mut First, &mut answers, 1000);
+    let wanted = r#"Leave { at: [], state: "A", output: Int(7) }"#;
+    expect_last(&rt, alloc, &trace, 2000, wanted);
+    expect_stop(&rt, stop, Stop::StepsSpent);
 }

@@ -7,6 +7,8 @@
 #[cfg(test)]
 mod drives;
 #[cfg(test)]
+mod expecting;
+#[cfg(test)]
 mod machines;
 #[cfg(test)]
 mod misplaced;

@@ -1,46 +1,47 @@
 //! Definitions and what they are read as, each call once with ample memory.
-use asl_machine::{DefFault, Kind, State, Target, read};
-use asl_tree::{OutOfMemory, read_value};
+use crate::expecting::expect_text;
+use crate::runs::machine;
+use asl_machine::{DefRefusal, Kind, Machine, State, Target, read};
+use asl_tree::read_value;
 use std::alloc::Global;
 use std::process::Abort;
+
+/// The number as a text.
+fn number_text(rt: &impl Abort, alloc: Global, number: usize) -> String {
+    format!(in alloc; "{number}").expect(rt, "memory")
+}
+
+/// The refusal as it is printed.
+fn refusal_text(rt: &impl Abort, alloc: Global, refusal: &DefRefusal) -> String {
+    let fault = refusal.fault.name();
+    let state = refusal.state.as_str();
+    let field = refusal.field.as_str();
+    format!(in alloc; "{fault} {state} {field}").expect(rt, "memory")
+}
 
 /// The number of states, or the refusal as it is printed.
 fn answered(rt: &impl Abort, alloc: Global, definition: &str) -> String {
     let value = read_value(alloc, definition.as_bytes()).expect(rt, "a value");
     match read(alloc, &value) {
-        Ok(machine) => {
-            let states = machine.states();
-            format!(in alloc; "{states}").expect(rt, "memory")
-        }
-        Err(refusal) => {
-            let fault = refusal.fault.name();
-            let state = refusal.state.as_str();
-            let field = refusal.field.as_str();
-            format!(in alloc; "{fault} {state} {field}").expect(rt, "memory")
-        }
+        Ok(machine) => number_text(rt, alloc, machine.states()),
+        Err(refusal) => refusal_text(rt, alloc, &refusal),
     }
 }
 
 /// The scope of the state of that number: its start, and its owner.
-fn scope(rt: &impl Abort, alloc: Global, machine: &asl_machine::Machine, number: usize) -> String {
-    match machine.scope_of(number) {
-        Some(scope) => {
-            let start = scope.start;
-            match scope.owner {
-                Some((owner, branch)) => format!(in alloc; "{start} {owner} {branch}").expect(
-                    rt, "memory",
-                ),
-                None => format!(in alloc; "{start}").expect(rt, "memory"),
-            }
-        }
-        None => String::new(alloc),
+fn scope(rt: &impl Abort, alloc: Global, machine: &Machine, number: usize) -> String {
+    let Some(scope) = machine.scope_of(number) else {
+        return String::new(alloc);
+    };
+    let start = scope.start;
+    match scope.owner {
+        Some((owner, branch)) => format!(in alloc; "{start} {owner} {branch}").expect(rt, "memory"),
+        None => number_text(rt, alloc, start),
     }
 }
 
 /// The numbers and the jitter of the first retrier of the first state.
-fn retrier(rt: &impl Abort, alloc: Global, definition: &str) -> String {
-    let value = read_value(alloc, definition.as_bytes()).expect(rt, "a value");
-    let machine = read(alloc, &value).expect(rt, "a machine");
+fn retrier_text(rt: &impl Abort, alloc: Global, machine: &Machine) -> String {
     let state = machine.state(0).expect(rt, "a state");
     let retrier = state.settings.retriers.get(0).expect(rt, "a retrier");
     let interval = retrier.interval_seconds;
@@ -51,243 +52,299 @@ fn retrier(rt: &impl Abort, alloc: Global, definition: &str) -> String {
     format!(in alloc; "{interval} {attempts} {rate} {delay} {jitter}").expect(rt, "memory")
 }
 
-/// The states that the fields of a state name, each with its number: `Next`, those of its catchers, and those of its type.
-fn targets<'m>(alloc: Global, state: &'m State) -> Result<Vec<&'m Target>, OutOfMemory> {
-    let mut named = Vec::new(alloc);
+/// The numbers and the jitter of the first retrier of the definition's first state.
+fn retrier(rt: &impl Abort, alloc: Global, definition: &str) -> String {
+    retrier_text(rt, alloc, &machine(rt, alloc, definition))
+}
+
+/// Adds the name and the number of a state that a field names.
+fn tell(rt: &impl Abort, alloc: Global, told: &mut String, target: &Target) {
+    let name = target.name.as_str();
+    let number = target.number;
+    let one = format!(in alloc; "{name} {number}, ").expect(rt, "memory");
+    told.push_str(&one).expect(rt, "memory");
+}
+
+/// Adds the states that `Next` and the catchers name.
+fn tell_settings(rt: &impl Abort, alloc: Global, told: &mut String, state: &State) {
     if let Some(next) = &state.settings.next {
-        named.push(next)?;
+        tell(rt, alloc, told, next);
     }
     for catcher in &state.settings.catchers {
-        named.push(&catcher.next)?;
+        tell(rt, alloc, told, &catcher.next);
     }
-    match &state.kind {
+}
+
+/// Adds the states that the fields of the state's type name.
+fn tell_kind(rt: &impl Abort, alloc: Global, told: &mut String, kind: &Kind) {
+    match kind {
         Kind::Choice { choices, default } => {
             for choice in choices {
-                named.push(&choice.next)?;
+                tell(rt, alloc, told, &choice.next);
             }
             if let Some(default) = default {
-                named.push(default)?;
+                tell(rt, alloc, told, default);
             }
         }
         Kind::Parallel { branches } => {
             for start in branches {
-                named.push(start)?;
+                tell(rt, alloc, told, start);
             }
         }
-        Kind::Map { processor, .. } => named.push(processor)?,
+        Kind::Map { processor, .. } => tell(rt, alloc, told, processor),
         Kind::Pass { .. }
         | Kind::Task { .. }
         | Kind::Wait { .. }
         | Kind::Succeed
         | Kind::Fail { .. } => {}
     }
-    Ok(named)
 }
+
+/// The states that the fields of a state name, each with its number: `Next`, those of its catchers, and those of its type.
+fn targets(rt: &impl Abort, alloc: Global, machine: &Machine, number: usize) -> String {
+    let state = machine.state(number).expect(rt, "a state");
+    let mut told = String::new(alloc);
+    tell_settings(rt, alloc, &mut told, state);
+    tell_kind(rt, alloc, &mut told, &state.kind);
+    told
+}
+
+/// States of each type that names others.
+const NAMING: &str = r#"{"StartAt":"C","States":{
+    "C":{"Type":"Choice","Default":"M","Choices":[
+        {"Variable":"$","IsNull":true,"Next":"P"},
+        {"Variable":"$","IsBoolean":true,"Next":"C"}]},
+    "M":{"Type":"Map","Next":"P","ItemProcessor":{
+        "StartAt":"I","States":{"I":{"Type":"Pass","End":true}}}},
+    "P":{"Type":"Parallel","End":true,
+        "Catch":[{"ErrorEquals":["E"],"Next":"M"},{"ErrorEquals":["States.ALL"],"Next":"C"}],
+        "Branches":[
+            {"StartAt":"X","States":{"X":{"Type":"Pass","End":true}}},
+            {"StartAt":"Z","States":{
+                "Y":{"Type":"Pass","End":true},
+                "Z":{"Type":"Pass","Next":"Y"}}}]}}}"#;
+
+/// The number of a state of these, and the states that its fields name.
+const TARGETS: [(usize, &str); 7] = [
+    (0, "P 3, C 0, M 1, "),
+    (1, "P 3, I 2, "),
+    (2, ""),
+    (3, "M 1, C 0, X 4, Z 6, "),
+    (4, ""),
+    (5, ""),
+    (6, "Y 5, "),
+];
 
 #[test]
 fn numbers_of_targets(rt: HostRuntime) {
     let alloc = rt.alloc();
-    let value = read_value(
-        alloc,
-        br#"{"StartAt":"C","States":{
-            "C":{"Type":"Choice","Default":"M","Choices":[
-                {"Variable":"$","IsNull":true,"Next":"P"},
-                {"Variable":"$","IsBoolean":true,"Next":"C"}]},
-            "M":{"Type":"Map","Next":"P","ItemProcessor":{
-                "StartAt":"I","States":{"I":{"Type":"Pass","End":true}}}},
-            "P":{"Type":"Parallel","End":true,
-                "Catch":[{"ErrorEquals":["E"],"Next":"M"},{"ErrorEquals":["States.ALL"],"Next":"C"}],
-                "Branches":[
-                    {"StartAt":"X","States":{"X":{"Type":"Pass","End":true}}},
-                    {"StartAt":"Z","States":{
-                        "Y":{"Type":"Pass","End":true},
-                        "Z":{"Type":"Pass","Next":"Y"}}}]}}}"#,
-    )
-    .expect(&rt, "a value");
-    let machine = read(alloc, &value).expect(&rt, "a machine");
-    for &(number, wanted) in &[
-        (0, "P 3, C 0, M 1, "),
-        (1, "P 3, I 2, "),
-        (2, ""),
-        (3, "M 1, C 0, X 4, Z 6, "),
-        (4, ""),
-        (5, ""),
-        (6, "Y 5, "),
-    ] {
-        let state = machine.state(number).expect(&rt, "a state");
-        let mut told = String::new(alloc);
-        for target in targets(alloc, state).expect(&rt, "memory") {
-            let name = target.name.as_str();
-            let number = target.number;
-            let one = format!(in alloc; "{name} {number}, ").expect(&rt, "memory");
-            told.push_str(&one).expect(&rt, "memory");
-        }
-        assert_eq!(rt; told.as_str(), wanted);
+    let machine = machine(&rt, alloc, NAMING);
+    for (number, wanted) in &TARGETS {
+        expect_text(
+            &rt,
+            targets(&rt, alloc, &machine, *number),
+            wanted,
+            &["targets"],
+        );
     }
 }
+
+/// A definition, and the numbers and the jitter of its retrier.
+const RETRIERS: [(&str, &str); 2] = [
+    (
+        r#"{"StartAt":"A","States":{"A":{"Type":"Task","Resource":"r","End":true,"Retry":[{"ErrorEquals":["E"]}]}}}"#,
+        "1 3 2.0 0 NONE",
+    ),
+    (
+        r#"{"StartAt":"A","States":{"A":{"Type":"Task","Resource":"r","End":true,"Retry":[{"ErrorEquals":["E"],"IntervalSeconds":7,"MaxAttempts":0,"BackoffRate":1.5,"MaxDelaySeconds":9,"JitterStrategy":"FULL"}]}}}"#,
+        "7 0 1.5 9 FULL",
+    ),
+];
 
 #[test]
 fn retriers(rt: HostRuntime) {
     let alloc = rt.alloc();
-    for &(definition, wanted) in &[
-        (
-            r#"{"StartAt":"A","States":{"A":{"Type":"Task","Resource":"r","End":true,"Retry":[{"ErrorEquals":["E"]}]}}}"#,
-            "1 3 2.0 0 NONE",
-        ),
-        (
-            r#"{"StartAt":"A","States":{"A":{"Type":"Task","Resource":"r","End":true,"Retry":[{"ErrorEquals":["E"],"IntervalSeconds":7,"MaxAttempts":0,"BackoffRate":1.5,"MaxDelaySeconds":9,"JitterStrategy":"FULL"}]}}}"#,
-            "7 0 1.5 9 FULL",
-        ),
-    ] {
-        let answer = retrier(&rt, alloc, definition);
-        assert_eq!(rt; answer.as_str(), wanted);
+    for (definition, wanted) in &RETRIERS {
+        expect_text(&rt, retrier(&rt, alloc, definition), wanted, &[definition]);
     }
 }
+
+/// A definition, and the number of its states or the refusal.
+const DEFINITIONS: [(&str, &str); 28] = [
+    (
+        r#"{"StartAt":"A","States":{"A":{"Type":"Pass","End":true}}}"#,
+        "1",
+    ),
+    (r#"[]"#, "NotObject  "),
+    (
+        r#"{"States":{"A":{"Type":"Pass","End":true}}}"#,
+        "MissingField  StartAt",
+    ),
+    (
+        r#"{"StartAt":"A","States":{"A":{"Type":"Pass","End":1,"Next":"A"}}}"#,
+        "WrongKind A End",
+    ),
+    (
+        r#"{"StartAt":"A","States":{"A":{"Type":"Pass","End":true,"Colour":1}}}"#,
+        "UnknownField A Colour",
+    ),
+    (
+        r#"{"StartAt":"A","States":{"A":{"Type":"Pass","End":true,"Assign":{}}}}"#,
+        "LeftOut A Assign",
+    ),
+    (
+        r#"{"StartAt":"A","States":{"A":{"Type":"Parallel","End":true,"Branches":[{"StartAt":"A","States":{"A":{"Type":"Pass","End":true}}}]}}}"#,
+        "DuplicateName A States",
+    ),
+    (
+        r#"{"StartAt":"A","States":{"A":{"Type":"Pass","Next":"Z"}}}"#,
+        "NoSuchState A Next",
+    ),
+    (
+        r#"{"StartAt":"A","States":{"A":{"Type":"Pass"}}}"#,
+        "NextOrEnd A Next",
+    ),
+    (
+        r#"{"StartAt":"A","States":{"A":{"Type":"Pass","End":true,"InputPath":"a"}}}"#,
+        "BadPath A InputPath",
+    ),
+    (
+        r#"{"StartAt":"A","States":{"A":{"Type":"Choice","Choices":[{}]}}}"#,
+        "BadRule A Choices",
+    ),
+    (
+        r#"{"StartAt":"A","States":{"A":{"Type":"Choice","Choices":[]}}}"#,
+        "EmptyList A Choices",
+    ),
+    (
+        r#"{"StartAt":"A","States":{"A":{"Type":"Choice","Choices":[{"Variable":"$.a","NumericEquals":1.5,"Next":"A"}]}}}"#,
+        "NotWhole A Choices",
+    ),
+    (
+        r#"{"StartAt":"A","States":{"A":{"Type":"Pass","End":true,"Parameters":{"x":1.5}}}}"#,
+        "NotWhole A Parameters",
+    ),
+    (
+        r#"{"StartAt":"A","States":{"A":{"Type":"Task","Resource":"r","End":true,"Retry":[{"ErrorEquals":["States.ALL","E"]}]}}}"#,
+        "BadErrorEquals A Retry",
+    ),
+    (
+        r#"{"StartAt":"A","States":{"A":{"Type":"Task","Resource":"r","End":true,"TimeoutSeconds":5,"HeartbeatSeconds":5}}}"#,
+        "HeartbeatNotSmaller A HeartbeatSeconds",
+    ),
+    (
+        r#"{"StartAt":"A","States":{"A":{"Type":"Choise","End":true}}}"#,
+        "UnknownType A Type",
+    ),
+    (
+        r#"{"StartAt":"A","States":{"A":{"Type":"Pass","End":true,"Result":1.5}}}"#,
+        "NotWhole A Result",
+    ),
+    (
+        r#"{"StartAt":"A","States":{"A":{"Type":"Pass","End":true,"Parameters":{"x.$":"$.n","x":1}}}}"#,
+        "BadTemplate A Parameters",
+    ),
+    (
+        r#"{"StartAt":"A","States":{"A":{"Type":"Task","Resource":"r","End":true,"Retry":[{"ErrorEquals":["E"],"BackoffRate":1.5}]}}}"#,
+        "1",
+    ),
+    (
+        r#"{"StartAt":"A","States":{"A":{"Type":"Task","Resource":"r","End":true,"Retry":[{"ErrorEquals":["E"],"MaxAttempts":-1}]}}}"#,
+        "WrongKind A Retry",
+    ),
+    (
+        r#"{"StartAt":"A","States":{"A":{"Type":"Task","Resource":"r","End":true,"Catch":[{"ErrorEquals":["E"],"Next":"Z"}]}}}"#,
+        "NoSuchState A Catch",
+    ),
+    (
+        r#"{"StartAt":"A","States":{"A":{"Type":"Choice","Choices":[{"Variable":"$.a","IsNull":true,"Next":"Z"}]}}}"#,
+        "NoSuchState A Choices",
+    ),
+    (
+        r#"{"StartAt":"A","States":{"A":{"Type":"Wait","End":true}}}"#,
+        "MissingField A Seconds",
+    ),
+    (
+        r#"{"StartAt":"A","States":{"A":{"Type":"Wait","End":true,"Seconds":1,"Timestamp":"t"}}}"#,
+        "WrongKind A Timestamp",
+    ),
+    (
+        r#"{"StartAt":"A","States":{"A":{"Type":"Map","End":true}}}"#,
+        "MissingField A ItemProcessor",
+    ),
+    (
+        r#"{"StartAt":"A","States":{"A":{"Type":"Map","End":true,"Iterator":{"StartAt":"B","States":{"B":{"Type":"Succeed"}}},"Parameters":{"i.$":"$$.Map.Item.Index"}}}}"#,
+        "2",
+    ),
+    (
+        r#"{"StartAt":"A","States":{"A":{"Type":"Parallel","End":true,"Branches":[{"StartAt":"Z","States":{"B":{"Type":"Succeed"}}}]}}}"#,
+        "NoSuchState A Branches",
+    ),
+];
 
 #[test]
 fn definitions(rt: HostRuntime) {
     let alloc = rt.alloc();
-    let vectors = &[
-        (
-            r#"{"StartAt":"A","States":{"A":{"Type":"Pass","End":true}}}"#,
-            "1",
-        ),
-        (r#"[]"#, "NotObject  "),
-        (
-            r#"{"States":{"A":{"Type":"Pass","End":true}}}"#,
-            "MissingField  StartAt",
-        ),
-        (
-            r#"{"StartAt":"A","States":{"A":{"Type":"Pass","End":1,"Next":"A"}}}"#,
-            "WrongKind A End",
-        ),
-        (
-            r#"{"StartAt":"A","States":{"A":{"Type":"Pass","End":true,"Colour":1}}}"#,
-            "UnknownField A Colour",
-        ),
-        (
-            r#"{"StartAt":"A","States":{"A":{"Type":"Pass","End":true,"Assign":{}}}}"#,
-            "LeftOut A Assign",
-        ),
-        (
-            r#"{"StartAt":"A","States":{"A":{"Type":"Parallel","End":true,"Branches":[{"StartAt":"A","States":{"A":{"Type":"Pass","End":true}}}]}}}"#,
-            "DuplicateName A States",
-        ),
-        (
-            r#"{"StartAt":"A","States":{"A":{"Type":"Pass","Next":"Z"}}}"#,
-            "NoSuchState A Next",
-        ),
-        (
-            r#"{"StartAt":"A","States":{"A":{"Type":"Pass"}}}"#,
-            "NextOrEnd A Next",
-        ),
-        (
-            r#"{"StartAt":"A","States":{"A":{"Type":"Pass","End":true,"InputPath":"a"}}}"#,
-            "BadPath A InputPath",
-        ),
-        (
-            r#"{"StartAt":"A","States":{"A":{"Type":"Choice","Choices":[{}]}}}"#,
-            "BadRule A Choices",
-        ),
-        (
-            r#"{"StartAt":"A","States":{"A":{"Type":"Choice","Choices":[]}}}"#,
-            "EmptyList A Choices",
-        ),
-        (
-            r#"{"StartAt":"A","States":{"A":{"Type":"Choice","Choices":[{"Variable":"$.a","NumericEquals":1.5,"Next":"A"}]}}}"#,
-            "NotWhole A Choices",
-        ),
-        (
-            r#"{"StartAt":"A","States":{"A":{"Type":"Pass","End":true,"Parameters":{"x":1.5}}}}"#,
-            "NotWhole A Parameters",
-        ),
-        (
-            r#"{"StartAt":"A","States":{"A":{"Type":"Task","Resource":"r","End":true,"Retry":[{"ErrorEquals":["States.ALL","E"]}]}}}"#,
-            "BadErrorEquals A Retry",
-        ),
-        (
-            r#"{"StartAt":"A","States":{"A":{"Type":"Task","Resource":"r","End":true,"TimeoutSeconds":5,"HeartbeatSeconds":5}}}"#,
-            "HeartbeatNotSmaller A HeartbeatSeconds",
-        ),
-        (
-            r#"{"StartAt":"A","States":{"A":{"Type":"Choise","End":true}}}"#,
-            "UnknownType A Type",
-        ),
-        (
-            r#"{"StartAt":"A","States":{"A":{"Type":"Pass","End":true,"Result":1.5}}}"#,
-            "NotWhole A Result",
-        ),
-        (
-            r#"{"StartAt":"A","States":{"A":{"Type":"Pass","End":true,"Parameters":{"x.$":"$.n","x":1}}}}"#,
-            "BadTemplate A Parameters",
-        ),
-        (
-            r#"{"StartAt":"A","States":{"A":{"Type":"Task","Resource":"r","End":true,"Retry":[{"ErrorEquals":["E"],"BackoffRate":1.5}]}}}"#,
-            "1",
-        ),
-        (
-            r#"{"StartAt":"A","States":{"A":{"Type":"Task","Resource":"r","End":true,"Retry":[{"ErrorEquals":["E"],"MaxAttempts":-1}]}}}"#,
-            "WrongKind A Retry",
-        ),
-        (
-            r#"{"StartAt":"A","States":{"A":{"Type":"Task","Resource":"r","End":true,"Catch":[{"ErrorEquals":["E"],"Next":"Z"}]}}}"#,
-            "NoSuchState A Catch",
-        ),
-        (
-            r#"{"StartAt":"A","States":{"A":{"Type":"Choice","Choices":[{"Variable":"$.a","IsNull":true,"Next":"Z"}]}}}"#,
-            "NoSuchState A Choices",
-        ),
-        (
-            r#"{"StartAt":"A","States":{"A":{"Type":"Wait","End":true}}}"#,
-            "MissingField A Seconds",
-        ),
-        (
-            r#"{"StartAt":"A","States":{"A":{"Type":"Wait","End":true,"Seconds":1,"Timestamp":"t"}}}"#,
-            "WrongKind A Timestamp",
-        ),
-        (
-            r#"{"StartAt":"A","States":{"A":{"Type":"Map","End":true}}}"#,
-            "MissingField A ItemProcessor",
-        ),
-        (
-            r#"{"StartAt":"A","States":{"A":{"Type":"Map","End":true,"Iterator":{"StartAt":"B","States":{"B":{"Type":"Succeed"}}},"Parameters":{"i.$":"$$.Map.Item.Index"}}}}"#,
-            "2",
-        ),
-        (
-            r#"{"StartAt":"A","States":{"A":{"Type":"Parallel","End":true,"Branches":[{"StartAt":"Z","States":{"B":{"Type":"Succeed"}}}]}}}"#,
-            "NoSuchState A Branches",
-        ),
-    ];
-    for &(definition, wanted) in vectors {
-        let answer = answered(&rt, alloc, definition);
-        assert_eq!(rt; answer.as_str(), wanted);
+    for (definition, wanted) in &DEFINITIONS {
+        expect_text(&rt, answered(&rt, alloc, definition), wanted, &[definition]);
     }
+}
 
-    let value = read_value(
-        alloc,
-        br#"{"StartAt":"P","States":{
-            "P":{"Type":"Parallel","Next":"N","Branches":[
-                {"StartAt":"T0","States":{"T0":{"Type":"Task","Resource":"r","End":true}}},
-                {"StartAt":"T1","States":{"T1":{"Type":"Task","Resource":"r","End":true}}}]},
-            "N":{"Type":"Pass","InputPath":"$[1]","End":true}}}"#,
-    )
-    .expect(&rt, "a value");
-    let machine = read(alloc, &value).expect(&rt, "a machine");
-    assert_eq!(rt; machine.states(), 4);
-    for &(name, number) in &[
-        ("N", Some(0)),
-        ("P", Some(1)),
-        ("T0", Some(2)),
-        ("T1", Some(3)),
-        ("t0", None),
-    ] {
-        assert_eq!(rt; machine.state_named(name), number);
+/// Two branches, and a state behind them.
+const BRANCHES: &str = r#"{"StartAt":"P","States":{
+    "P":{"Type":"Parallel","Next":"N","Branches":[
+        {"StartAt":"T0","States":{"T0":{"Type":"Task","Resource":"r","End":true}}},
+        {"StartAt":"T1","States":{"T1":{"Type":"Task","Resource":"r","End":true}}}]},
+    "N":{"Type":"Pass","InputPath":"$[1]","End":true}}}"#;
+
+/// The name of a state, and its number.
+const NUMBERS: [(&str, Option<usize>); 5] = [
+    ("N", Some(0)),
+    ("P", Some(1)),
+    ("T0", Some(2)),
+    ("T1", Some(3)),
+    ("t0", None),
+];
+
+/// The number is the one that is wanted of these givens.
+fn expect_number(rt: &impl Abort, told: Option<usize>, wanted: Option<usize>, given: &str) {
+    assert_eq!(*rt; told, wanted, "{given}");
+}
+
+#[test]
+fn numbers_of_names(rt: HostRuntime) {
+    let machine = machine(&rt, rt.alloc(), BRANCHES);
+    expect_number(&rt, Some(machine.states()), Some(4), "states");
+    for (name, number) in &NUMBERS {
+        expect_number(&rt, machine.state_named(name), *number, name);
     }
-    for (number, wanted) in [(0, "1"), (1, "1"), (2, "2 1 0"), (3, "3 1 1"), (4, "")] {
-        let answer = scope(&rt, alloc, &machine, number);
-        assert_eq!(rt; answer.as_str(), wanted);
+}
+
+/// The number of a state, and its scope.
+const SCOPES: [(usize, &str); 5] = [(0, "1"), (1, "1"), (2, "2 1 0"), (3, "3 1 1"), (4, "")];
+
+#[test]
+fn scopes(rt: HostRuntime) {
+    let alloc = rt.alloc();
+    let machine = machine(&rt, alloc, BRANCHES);
+    for (number, wanted) in &SCOPES {
+        expect_text(
+            &rt,
+            scope(&rt, alloc, &machine, *number),
+            wanted,
+            &["scopes"],
+        );
     }
-    assert_eq!(rt; machine.state(4).is_none(), true);
-    assert_eq!(rt; machine.name(3), Some("T1"));
-    assert_eq!(rt; machine.name(4), None);
+}
+
+/// The last state has its name, and none stands behind it.
+fn expect_end(rt: &impl Abort, machine: &Machine) {
+    assert_eq!(*rt; machine.state(4).is_none(), true);
+    assert_eq!(*rt; machine.name(3), Some("T1"));
+    assert_eq!(*rt; machine.name(4), None);
+}
+
+#[test]
+fn none_behind_the_last_state(rt: HostRuntime) {
+    expect_end(&rt, &machine(&rt, rt.alloc(), BRANCHES));
 }

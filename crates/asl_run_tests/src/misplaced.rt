@@ -1,6 +1,6 @@
 //! Events at places where nothing stands, and where what stands there doesn't want them: each leaves the run as it was.
 use crate::runs::Happening::{Gives, Moves};
-use crate::runs::{Step, TWO_TASKS, compare, machine, started};
+use crate::runs::{Step, TWO_TASKS, expect_run};
 
 /// Events at places where nothing stands, and where what stands there doesn't want them, while a task waits beside a
 /// branch that hasn't begun.
@@ -124,10 +124,10 @@ const AFTER_THE_END: [Step; 7] = [
 
 #[test]
 fn misplaced_events(rt: HostRuntime) {
-    let alloc = rt.alloc();
-    let machine = machine(&rt, alloc, TWO_TASKS);
-    let mut run = started(&rt, alloc, &machine, "5");
-    compare(&rt, alloc, &mut run, &MISPLACED, "");
-    compare(&rt, alloc, &mut run, &BEHIND_AN_END, "[1,2]");
-    compare(&rt, alloc, &mut run, &AFTER_THE_END, "[1,2]");
+    let parts: [(&[Step], &str); 3] = [
+        (&MISPLACED, ""),
+        (&BEHIND_AN_END, "[1,2]"),
+        (&AFTER_THE_END, "[1,2]"),
+    ];
+    expect_run(&rt, rt.alloc(), TWO_TASKS, "5", &parts);
 }

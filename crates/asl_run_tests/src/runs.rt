@@ -1,9 +1,10 @@
 //! Runs step by step: their entries, the places that are enabled then, and how they end, each call once with ample
 //! memory.
+use crate::expecting::{expect_text, printed};
 use Happening::{Fails, Gives, Moves};
 use asl_machine::{Machine, read};
 use asl_run::{Answer, Event, Outcome, Run, start};
-use asl_tree::{read_value, to_text};
+use asl_tree::{Tree, read_value, to_text};
 use std::alloc::Global;
 use std::process::Abort;
 
@@ -55,6 +56,16 @@ pub(crate) fn machine(rt: &impl Abort, alloc: Global, definition: &str) -> Machi
     read(alloc, &value).expect(rt, "a machine")
 }
 
+/// The tree that the text spells.
+fn tree(rt: &impl Abort, alloc: Global, text: &str) -> Tree {
+    asl_tree::read(alloc, text.as_bytes()).expect(rt, "a tree")
+}
+
+/// The text as one of its own.
+fn owned(rt: &impl Abort, alloc: Global, text: &str) -> String {
+    String::from_str(alloc, text).expect(rt, "memory")
+}
+
 /// A run of the machine from the input that the text spells.
 pub(crate) fn started<'m>(
     rt: &impl Abort,
@@ -62,21 +73,17 @@ pub(crate) fn started<'m>(
     machine: &'m Machine,
     input: &str,
 ) -> Run<'m> {
-    let input = asl_tree::read(alloc, input.as_bytes()).expect(rt, "a tree");
-    start(alloc, machine, input).expect(rt, "a run")
+    start(alloc, machine, tree(rt, alloc, input)).expect(rt, "a run")
 }
 
 /// The task's answer; none for a move.
 pub(crate) fn answer(rt: &impl Abort, alloc: Global, happening: Happening) -> Option<Answer> {
     match happening {
         Moves => None,
-        Gives(value) => {
-            let tree = asl_tree::read(alloc, value.as_bytes()).expect(rt, "a tree");
-            Some(Answer::Gives(tree))
-        }
+        Gives(value) => Some(Answer::Gives(tree(rt, alloc, value))),
         Fails(error, cause) => Some(Answer::Fails {
-            error: String::from_str(alloc, error).expect(rt, "memory"),
-            cause: String::from_str(alloc, cause).expect(rt, "memory"),
+            error: owned(rt, alloc, error),
+            cause: owned(rt, alloc, cause),
         }),
     }
 }
@@ -92,39 +99,54 @@ pub(crate) fn ending(rt: &impl Abort, alloc: Global, run: &Run) -> String {
     }
 }
 
-/// The entries of the step, or its refusal, which gives the event back.
-fn stepped(
-    rt: &impl Abort,
-    alloc: Global,
-    run: &mut Run,
-    at: &[usize],
-    happening: Happening,
-) -> String {
+/// The event of what happens at the place.
+fn event(rt: &impl Abort, alloc: Global, at: &[usize], happening: Happening) -> Event {
     let place = at.to_vec(alloc).expect(rt, "memory");
-    let event = match answer(rt, alloc, happening) {
+    match answer(rt, alloc, happening) {
         Some(answer) => Event::Answers(place, answer),
         None => Event::Move(place),
-    };
-    match run.step(event) {
-        Ok(entries) => format!(in alloc; "{entries:?}").expect(rt, "memory"),
-        Err(refusal) => format!(in alloc; "{refusal:?}").expect(rt, "memory"),
     }
+}
+
+/// The entries of the step, or its refusal, which gives the event back.
+fn stepped(rt: &impl Abort, alloc: Global, run: &mut Run, event: Event) -> String {
+    match run.step(event) {
+        Ok(entries) => printed(rt, alloc, &entries),
+        Err(refusal) => printed(rt, alloc, &refusal),
+    }
+}
+
+/// The places that are enabled.
+fn enabled(rt: &impl Abort, alloc: Global, run: &Run) -> String {
+    printed(rt, alloc, &run.enabled().expect(rt, "places"))
 }
 
 /// A place, what happens there, the entries of this step or its refusal, and the places that are enabled then.
 pub(crate) type Step = (&'static [usize], Happening, &'static str, &'static str);
 
 /// Takes the steps and compares each with what is wanted of it, and then how the run has ended.
-pub(crate) fn compare(rt: &impl Abort, alloc: Global, run: &mut Run, steps: &[Step], wanted: &str) {
-    for (at, happening, entries, enabled) in steps {
-        let answer = stepped(rt, alloc, run, at, *happening);
-        assert_eq!(rt; answer.as_str(), *entries);
-        let places = run.enabled().expect(rt, "places");
-        let places = format!(in alloc; "{places:?}").expect(rt, "memory");
-        assert_eq!(rt; places.as_str(), *enabled, "after {answer}");
+fn compare(rt: &impl Abort, alloc: Global, run: &mut Run, steps: &[Step], wanted: &str) {
+    for (at, happening, entries, places) in steps {
+        let event = event(rt, alloc, at, *happening);
+        expect_text(rt, stepped(rt, alloc, run, event), entries, &["entries"]);
+        expect_text(rt, enabled(rt, alloc, run), places, &["after", entries]);
     }
-    let ending = ending(rt, alloc, run);
-    assert_eq!(rt; ending.as_str(), wanted);
+    expect_text(rt, ending(rt, alloc, run), wanted, &["the ending"]);
+}
+
+/// Runs the definition from the input through each part's steps, behind which the run has ended as is wanted of the part.
+pub(crate) fn expect_run(
+    rt: &impl Abort,
+    alloc: Global,
+    definition: &str,
+    input: &str,
+    parts: &[(&[Step], &str)],
+) {
+    let machine = machine(rt, alloc, definition);
+    let mut run = started(rt, alloc, &machine, input);
+    for (steps, wanted) in parts {
+        compare(rt, alloc, &mut run, steps, wanted);
+    }
 }
 
 /// Two tasks are entered.
@@ -194,18 +216,15 @@ const FIRST_FIRST: [Step; 3] = [
 ];
 
 #[test]
-fn branches(rt: HostRuntime) {
-    let alloc = rt.alloc();
-    let machine = machine(&rt, alloc, TWO_TASKS);
-    for second_first in [true, false] {
-        let mut run = started(&rt, alloc, &machine, "5");
-        compare(&rt, alloc, &mut run, &ENTERED, "");
-        if second_first {
-            compare(&rt, alloc, &mut run, &SECOND_FIRST, r#"[1,"a"]"#);
-        } else {
-            compare(&rt, alloc, &mut run, &FIRST_FIRST, r#"[1,"a"]"#);
-        }
-    }
+fn branches_with_the_second_answered_first(rt: HostRuntime) {
+    let parts: [(&[Step], &str); 2] = [(&ENTERED, ""), (&SECOND_FIRST, r#"[1,"a"]"#)];
+    expect_run(&rt, rt.alloc(), TWO_TASKS, "5", &parts);
+}
+
+#[test]
+fn branches_with_the_first_answered_first(rt: HostRuntime) {
+    let parts: [(&[Step], &str); 2] = [(&ENTERED, ""), (&FIRST_FIRST, r#"[1,"a"]"#)];
+    expect_run(&rt, rt.alloc(), TWO_TASKS, "5", &parts);
 }
 
 /// A second task that fails; an event that isn't wanted, or has no place, is given back.
@@ -262,18 +281,24 @@ const GONE: [Step; 3] = [
 ];
 
 #[test]
-fn failed_branches(rt: HostRuntime) {
-    let alloc = rt.alloc();
-    let machine = machine(&rt, alloc, TWO_TASKS);
-    for answered in [true, false] {
-        let mut run = started(&rt, alloc, &machine, "5");
-        compare(&rt, alloc, &mut run, &ENTERED, "");
-        compare(&rt, alloc, &mut run, &SECOND_FAILS, "");
-        if answered {
-            compare(&rt, alloc, &mut run, &ANSWERED, "");
-        }
-        compare(&rt, alloc, &mut run, &GONE, "States.BranchFailed c");
-    }
+fn failed_branches_of_which_one_is_answered(rt: HostRuntime) {
+    let parts: [(&[Step], &str); 4] = [
+        (&ENTERED, ""),
+        (&SECOND_FAILS, ""),
+        (&ANSWERED, ""),
+        (&GONE, "States.BranchFailed c"),
+    ];
+    expect_run(&rt, rt.alloc(), TWO_TASKS, "5", &parts);
+}
+
+#[test]
+fn failed_branches_of_which_none_is_answered(rt: HostRuntime) {
+    let parts: [(&[Step], &str); 3] = [
+        (&ENTERED, ""),
+        (&SECOND_FAILS, ""),
+        (&GONE, "States.BranchFailed c"),
+    ];
+    expect_run(&rt, rt.alloc(), TWO_TASKS, "5", &parts);
 }
 
 /// Three items, the last of which is answered first.
@@ -330,10 +355,8 @@ const ITEMS: [Step; 8] = [
 
 #[test]
 fn items(rt: HostRuntime) {
-    let alloc = rt.alloc();
-    let machine = machine(&rt, alloc, TASK_FOR_EACH);
-    let mut run = started(&rt, alloc, &machine, "[1,2,3]");
-    compare(&rt, alloc, &mut run, &ITEMS, r#"["a","b","c"]"#)
+    let parts: [(&[Step], &str); 1] = [(&ITEMS, r#"["a","b","c"]"#)];
+    expect_run(&rt, rt.alloc(), TASK_FOR_EACH, "[1,2,3]", &parts);
 }
 
 /// Two branches for each of two items, not in the order of their places; the branches of an item that has ended are gone
@@ -409,10 +432,8 @@ const NESTED: [Step; 11] = [
 
 #[test]
 fn nested_children(rt: HostRuntime) {
-    let alloc = rt.alloc();
-    let machine = machine(&rt, alloc, BRANCHES_FOR_EACH);
-    let mut run = started(&rt, alloc, &machine, "[1,2]");
-    compare(&rt, alloc, &mut run, &NESTED, "[[1,1],[2,2]]")
+    let parts: [(&[Step], &str); 1] = [(&NESTED, "[[1,1],[2,2]]")];
+    expect_run(&rt, rt.alloc(), BRANCHES_FOR_EACH, "[1,2]", &parts);
 }
 
 /// Two failures are retried, and the third is caught.
@@ -463,18 +484,14 @@ const FAILURES: [Step; 7] = [
 
 #[test]
 fn retries_and_catchers(rt: HostRuntime) {
-    let alloc = rt.alloc();
-    for definition in [RETRIED, RETRIED_AT_ALL] {
-        let machine = machine(&rt, alloc, definition);
-        let mut run = started(&rt, alloc, &machine, "{}");
-        compare(
-            &rt,
-            alloc,
-            &mut run,
-            &FAILURES,
-            r#"{"err":{"Cause":"c3","Error":"A"}}"#,
-        );
-    }
+    let parts: [(&[Step], &str); 1] = [(&FAILURES, r#"{"err":{"Cause":"c3","Error":"A"}}"#)];
+    expect_run(&rt, rt.alloc(), RETRIED, "{}", &parts);
+}
+
+#[test]
+fn retries_and_catchers_with_a_retrier_for_all(rt: HostRuntime) {
+    let parts: [(&[Step], &str); 1] = [(&FAILURES, r#"{"err":{"Cause":"c3","Error":"A"}}"#)];
+    expect_run(&rt, rt.alloc(), RETRIED_AT_ALL, "{}", &parts);
 }
 
 /// A task's result is dropped, so that the output is the input.
@@ -495,8 +512,6 @@ const DROPPED: [Step; 2] = [
 
 #[test]
 fn dropped_results(rt: HostRuntime) {
-    let alloc = rt.alloc();
-    let machine = machine(&rt, alloc, RESULT_DROPPED);
-    let mut run = started(&rt, alloc, &machine, r#"{"a":1}"#);
-    compare(&rt, alloc, &mut run, &DROPPED, r#"{"a":1}"#)
+    let parts: [(&[Step], &str); 1] = [(&DROPPED, r#"{"a":1}"#)];
+    expect_run(&rt, rt.alloc(), RESULT_DROPPED, r#"{"a":1}"#, &parts);
 }

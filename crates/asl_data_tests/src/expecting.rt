@@ -1,0 +1,19 @@
+//! What the tests of several modules share: how an answer is printed, and how it is compared with the one that is wanted.
+use std::alloc::Global;
+use std::fmt::Debug;
+use std::process::Abort;
+
+/// The value as it is printed.
+pub(crate) fn printed(rt: &impl Abort, alloc: Global, value: &impl Debug) -> String {
+    format!(in alloc; "{value:?}").expect(rt, "memory")
+}
+
+/// The text is the one that is wanted of these givens.
+pub(crate) fn expect_text(rt: &impl Abort, told: String, wanted: &str, given: &[&str]) {
+    assert_eq!(*rt; told.as_str(), wanted, "{given:?}");
+}
+
+/// The answer is the one that is wanted of these givens.
+pub(crate) fn expect_answer(rt: &impl Abort, told: bool, wanted: bool, given: &[&str]) {
+    assert_eq!(*rt; told, wanted, "{given:?}");
+}
