@@ -1,51 +1,71 @@
 //! Shapes and texts written by hand.
-use asl_records::read_declared;
+use asl_records::{Declared, read_declared};
 use asl_samples::{declared_text, opened, shape_of, shape_text};
 use asl_shape::{Shape, has, same, write};
 use asl_tree::{Tree, read, read_value, to_text};
 use std::alloc::Global;
-use std::test::Fail;
+use std::process::Abort;
+
+/// The tree in the JSON text.
+fn tree(rt: &impl Abort, alloc: Global, text: &str) -> Tree {
+    read(alloc, text.as_bytes()).expect(rt, "a tree")
+}
 
 /// The trees of these texts.
-fn trees(alloc: Global, texts: &[&str]) -> Result<Vec<Tree>, Fail> {
+fn trees(rt: &impl Abort, alloc: Global, texts: &[&str]) -> Vec<Tree> {
     let mut trees = Vec::new(alloc);
     for text in texts {
-        trees.push(read(alloc, text.as_bytes())?)?;
+        trees.push(tree(rt, alloc, text)).expect(rt, "memory");
     }
-    Ok(trees)
+    trees
+}
+
+/// The shape of the samples.
+fn shape_of_all(rt: &impl Abort, alloc: Global, samples: &[Tree]) -> Shape {
+    let shape = shape_of(alloc, samples).expect(rt, "memory");
+    shape.expect(rt, "a shape")
 }
 
 /// The shape that the samples of these texts have in common.
-fn common(alloc: Global, texts: &[&str]) -> Result<Shape, Fail> {
-    let samples = trees(alloc, texts)?;
-    let shape = shape_of(alloc, &samples)?;
-    Ok(shape.ok_or("a shape")?)
+fn common(rt: &impl Abort, alloc: Global, texts: &[&str]) -> Shape {
+    shape_of_all(rt, alloc, &trees(rt, alloc, texts))
 }
 
 /// The compact text that spells the shape.
-fn spelled(alloc: Global, shape: &Shape) -> Result<String, Fail> {
-    let tree = write(alloc, shape)?;
-    Ok(to_text(alloc, &tree)?)
+fn spelled(rt: &impl Abort, alloc: Global, shape: &Shape) -> String {
+    let tree = write(alloc, shape).expect(rt, "a tree");
+    to_text(alloc, &tree).expect(rt, "a text")
+}
+
+/// The text is the one that is wanted of these givens.
+fn expect_text(rt: &impl Abort, told: String, wanted: &str, given: &[&str]) {
+    assert_eq!(*rt; told.as_str(), wanted, "{given:?}");
+}
+
+/// The answer to what is asked is yes.
+fn expect(rt: &impl Abort, answer: bool, asked: &str) {
+    assert!(*rt; answer, "{asked}");
 }
 
 #[test]
-fn no_samples_have_no_shape(rt: HostRuntime) -> Result<(), Fail> {
-    let shape = shape_of(rt.alloc(), &[])?;
+fn no_samples_have_no_shape(rt: HostRuntime) {
+    let shape = shape_of(rt.alloc(), &[]).expect(&rt, "memory");
     assert!(rt; shape.is_none());
-    Ok(())
+}
+
+/// The text that spells what the samples of these texts have in common is the wanted one.
+fn expect_common(rt: &impl Abort, alloc: Global, texts: &[&str], wanted: &str) {
+    let told = spelled(rt, alloc, &common(rt, alloc, texts));
+    expect_text(rt, told, wanted, texts);
 }
 
 #[test]
-fn one_sample_is_taken_as_it_is(rt: HostRuntime) -> Result<(), Fail> {
-    let shape = common(rt.alloc(), &[r#"{"b":[true,null],"a":1}"#])?;
-    assert_eq!(rt;
-        spelled(rt.alloc(), &shape)?.as_str(),
-        "{\"additionalProperties\":false,\"properties\":{\"a\":{\"type\":\"integer\"},\
+fn one_sample_is_taken_as_it_is(rt: HostRuntime) {
+    let wanted = "{\"additionalProperties\":false,\"properties\":{\"a\":{\"type\":\"integer\"},\
          \"b\":{\"items\":false,\"minItems\":2,\
          \"prefixItems\":[{\"type\":\"boolean\"},{\"type\":\"null\"}],\"type\":\"array\"}},\
-         \"required\":[\"a\",\"b\"],\"type\":\"object\"}"
-    );
-    Ok(())
+         \"required\":[\"a\",\"b\"],\"type\":\"object\"}";
+    expect_common(&rt, rt.alloc(), &[r#"{"b":[true,null],"a":1}"#], wanted);
 }
 
 /// What samples have in common, by the text that spells it.
@@ -75,109 +95,124 @@ const COMMON: [(&[&str], &str); 6] = [
 ];
 
 #[test]
-fn several_samples_are_joined(rt: HostRuntime) -> Result<(), Fail> {
-    for &(samples, wanted) in &COMMON {
-        let shape = common(rt.alloc(), samples)?;
-        assert_eq!(rt; spelled(rt.alloc(), &shape)?.as_str(), wanted);
+fn several_samples_are_joined(rt: HostRuntime) {
+    let alloc = rt.alloc();
+    for (samples, wanted) in &COMMON {
+        expect_common(&rt, alloc, samples, wanted);
     }
-    Ok(())
 }
 
-/// The sample of that number: an `id`, which is null for each seventh; a `name`, which each third lacks; no tag, one or
-/// two; rows, which differ in length and depth.
-fn sample(alloc: Global, number: u32) -> Result<Tree, Fail> {
-    let id = if number % 7 == 0 {
-        String::from_str(alloc, "null")?
+/// The `id` of the sample of that number.
+fn sample_id(rt: &impl Abort, alloc: Global, number: u32) -> String {
+    if number % 7 == 0 {
+        String::from_str(alloc, "null").expect(rt, "memory")
     } else {
-        format!(in alloc; "{number}")?
-    };
-    let name = if number % 3 == 0 {
-        ""
-    } else {
-        r#""name":"x","#
-    };
-    let tags = match number % 3 {
-        0 => "[]",
-        1 => r#"["t"]"#,
-        _ => r#"["t","u"]"#,
+        format!(in alloc; "{number}").expect(rt, "memory")
+    }
+}
+
+/// The text of the sample of that number.
+fn sample_text(rt: &impl Abort, alloc: Global, number: u32) -> String {
+    let id = sample_id(rt, alloc, number);
+    let (name, tags) = match number % 3 {
+        0 => ("", "[]"),
+        1 => (r#""name":"x","#, r#"["t"]"#),
+        _ => (r#""name":"x","#, r#"["t","u"]"#),
     };
     let rows = if number % 2 == 0 {
         "[[1],[2,null]]"
     } else {
         "[[]]"
     };
-    let text = format!(in alloc; "{{\"id\":{id},{name}\"rows\":{rows},\"tags\":{tags}}}")?;
-    Ok(read(alloc, text.as_bytes())?)
+    format!(in alloc; "{{\"id\":{id},{name}\"rows\":{rows},\"tags\":{tags}}}").expect(rt, "memory")
 }
 
-/// A hundred samples.
-fn hundred(alloc: Global) -> Result<Vec<Tree>, Fail> {
+/// A hundred samples: of each an `id`, which is null for each seventh; a `name`, which each third lacks; no tag, one or
+/// two; rows, which differ in length and depth.
+fn hundred(rt: &impl Abort, alloc: Global) -> Vec<Tree> {
     let mut samples = Vec::new(alloc);
     for number in 0..100 {
-        samples.push(sample(alloc, number)?)?;
+        let text = sample_text(rt, alloc, number);
+        samples.push(tree(rt, alloc, &text)).expect(rt, "memory");
     }
-    Ok(samples)
+    samples
 }
 
 #[test]
-fn each_of_a_hundred_samples_has_the_shape(rt: HostRuntime) -> Result<(), Fail> {
-    let samples = hundred(rt.alloc())?;
-    let shape = shape_of(rt.alloc(), &samples)?.ok_or("a shape")?;
-    assert_eq!(rt;
-        spelled(rt.alloc(), &shape)?.as_str(),
+fn a_hundred_samples_are_joined(rt: HostRuntime) {
+    let alloc = rt.alloc();
+    let shape = shape_of_all(&rt, alloc, &hundred(&rt, alloc));
+    let wanted =
         "{\"additionalProperties\":false,\"properties\":{\"id\":{\"type\":[\"integer\",\"null\"]},\
          \"name\":{\"type\":\"string\"},\"rows\":{\"items\":{\"items\":false,\"minItems\":2,\
          \"prefixItems\":[{\"type\":\"integer\"},{\"type\":\"null\"}],\"type\":\"array\"},\
          \"minItems\":1,\"prefixItems\":[{\"items\":{\"type\":\"integer\"},\"type\":\"array\"}],\
          \"type\":\"array\"},\"tags\":{\"items\":{\"type\":\"string\"},\"type\":\"array\"}},\
-         \"required\":[\"id\",\"rows\",\"tags\"],\"type\":\"object\"}"
-    );
-    let open = opened(rt.alloc(), &shape)?;
-    for sample in &samples {
-        assert!(rt; has(&shape, sample));
-        assert!(rt; has(&open, sample));
-    }
-    Ok(())
+         \"required\":[\"id\",\"rows\",\"tags\"],\"type\":\"object\"}";
+    expect_text(&rt, spelled(&rt, alloc, &shape), wanted, &["a hundred"]);
+}
+
+/// The shape with its objects opened.
+fn open(rt: &impl Abort, alloc: Global, shape: &Shape) -> Shape {
+    opened(alloc, shape).expect(rt, "memory")
 }
 
 #[test]
-fn objects_are_opened_at_any_depth(rt: HostRuntime) -> Result<(), Fail> {
+fn each_of_a_hundred_samples_has_the_shape(rt: HostRuntime) {
     let alloc = rt.alloc();
-    let shape = common(
-        alloc,
-        &[
-            r#"{"a":[{"b":{"c":1}}],"d":[{}]}"#,
-            r#"{"a":[{"b":null}],"d":[{},{}]}"#,
-        ],
-    )?;
-    let open = opened(alloc, &shape)?;
-    assert_eq!(rt;
-        spelled(alloc, &open)?.as_str(),
-        "{\"properties\":{\"a\":{\"items\":false,\"minItems\":1,\"prefixItems\":[{\
+    let samples = hundred(&rt, alloc);
+    let shape = shape_of_all(&rt, alloc, &samples);
+    let open = open(&rt, alloc, &shape);
+    for sample in &samples {
+        expect(&rt, has(&shape, sample), "the shape of the samples");
+        expect(&rt, has(&open, sample), "the opened shape");
+    }
+}
+
+/// Two samples with objects in lists and in objects.
+const DEEP: [&str; 2] = [
+    r#"{"a":[{"b":{"c":1}}],"d":[{}]}"#,
+    r#"{"a":[{"b":null}],"d":[{},{}]}"#,
+];
+
+#[test]
+fn objects_are_opened_at_any_depth(rt: HostRuntime) {
+    let alloc = rt.alloc();
+    let open = open(&rt, alloc, &common(&rt, alloc, &DEEP));
+    let wanted = "{\"properties\":{\"a\":{\"items\":false,\"minItems\":1,\"prefixItems\":[{\
          \"properties\":{\"b\":{\"properties\":{\"c\":{\"type\":\"integer\"}},\"required\":[\"c\"],\
          \"type\":[\"null\",\"object\"]}},\"required\":[\"b\"],\"type\":\"object\"}],\"type\":\"array\"},\
          \"d\":{\"items\":{\"type\":\"object\"},\"minItems\":1,\"prefixItems\":[{\"type\":\"object\"}],\
-         \"type\":\"array\"}},\"required\":[\"a\",\"d\"],\"type\":\"object\"}"
-    );
-    let other = read(
-        alloc,
-        br#"{"a":[{"b":{"c":1,"x":2},"y":3}],"d":[{"z":4}],"e":5}"#,
-    )?;
-    assert!(rt; !has(&shape, &other));
-    assert!(rt; has(&open, &other));
-    for kept in [Shape::Any, Shape::Never, Shape::Text] {
-        let open = opened(alloc, &kept)?;
-        assert!(rt; same(&open, &kept));
-    }
-    Ok(())
+         \"type\":\"array\"}},\"required\":[\"a\",\"d\"],\"type\":\"object\"}";
+    expect_text(&rt, spelled(&rt, alloc, &open), wanted, &DEEP);
 }
 
 #[test]
-fn texts_of_shapes_are_set_in(rt: HostRuntime) -> Result<(), Fail> {
-    let shape = common(rt.alloc(), &[r#"{"a":null}"#, r#"{"a":1}"#])?;
-    assert_eq!(rt;
-        shape_text(rt.alloc(), &shape)?.as_str(),
-        r#"{
+fn opened_objects_take_other_fields(rt: HostRuntime) {
+    let alloc = rt.alloc();
+    let shape = common(&rt, alloc, &DEEP);
+    let text = r#"{"a":[{"b":{"c":1,"x":2},"y":3}],"d":[{"z":4}],"e":5}"#;
+    let other = tree(&rt, alloc, text);
+    expect(&rt, !has(&shape, &other), "no such field in the shape");
+    expect(
+        &rt,
+        has(&open(&rt, alloc, &shape), &other),
+        "the opened shape",
+    );
+}
+
+#[test]
+fn shapes_without_objects_are_kept(rt: HostRuntime) {
+    for kept in &[Shape::Any, Shape::Never, Shape::Text] {
+        expect(&rt, same(&open(&rt, rt.alloc(), kept), kept), "kept");
+    }
+}
+
+#[test]
+fn texts_of_shapes_are_set_in(rt: HostRuntime) {
+    let samples = [r#"{"a":null}"#, r#"{"a":1}"#];
+    let shape = common(&rt, rt.alloc(), &samples);
+    let wanted = r#"{
   "additionalProperties": false,
   "properties": {
     "a": {
@@ -191,9 +226,9 @@ fn texts_of_shapes_are_set_in(rt: HostRuntime) -> Result<(), Fail> {
     "a"
   ],
   "type": "object"
-}"#
-    );
-    Ok(())
+}"#;
+    let text = shape_text(rt.alloc(), &shape).expect(&rt, "a text");
+    expect_text(&rt, text, wanted, &samples);
 }
 
 /// A machine with Tasks in a branch, in a processor and in its own scope.
@@ -206,19 +241,15 @@ const NESTED: &str = r#"{"StartAt":"Both","States":{
     "Zip":{"Type":"Task","Resource":"urn:zip","End":true}}}"#;
 
 /// The declared shapes to begin with of a definition.
-fn begun(alloc: Global, definition: &str) -> Result<String, Fail> {
-    let value = read_value(alloc, definition.as_bytes())?;
-    let Ok(machine) = asl_machine::read(alloc, &value) else {
-        return Err(Fail::from("no machine"));
-    };
-    Ok(declared_text(alloc, &machine)?)
+fn begun(rt: &impl Abort, alloc: Global, definition: &str) -> String {
+    let value = read_value(alloc, definition.as_bytes()).expect(rt, "a value");
+    let machine = asl_machine::read(alloc, &value).expect(rt, "a machine");
+    declared_text(alloc, &machine).expect(rt, "a text")
 }
 
 #[test]
-fn tasks_of_all_scopes_are_declared(rt: HostRuntime) -> Result<(), Fail> {
-    assert_eq!(rt;
-        begun(rt.alloc(), NESTED)?.as_str(),
-        r#"{
+fn tasks_of_all_scopes_are_declared(rt: HostRuntime) {
+    let wanted = r#"{
   "input": true,
   "tasks": {
     "Ask": {
@@ -234,35 +265,44 @@ fn tasks_of_all_scopes_are_declared(rt: HostRuntime) -> Result<(), Fail> {
       "takes": true
     }
   }
-}"#
-    );
-    Ok(())
+}"#;
+    expect_text(&rt, begun(&rt, rt.alloc(), NESTED), wanted, &[NESTED]);
 }
 
-#[test]
-fn what_is_declared_reads_back(rt: HostRuntime) -> Result<(), Fail> {
-    let alloc = rt.alloc();
-    let text = begun(alloc, NESTED)?;
-    let Ok(declared) = read_declared(alloc, read_value(alloc, text.as_bytes())?) else {
-        return Err(Fail::from("no declared shapes"));
-    };
-    assert!(rt; same(&declared.input, &Shape::Any));
-    assert_eq!(rt; declared.tasks.len(), 3);
-    for name in ["Ask", "Do \"it\"", "Zip"] {
-        let task = declared.task(name).ok_or("a task")?;
-        assert!(rt; same(&task.takes, &Shape::Any));
-        assert!(rt; same(&task.gives, &Shape::Any));
+/// The shapes that are declared to begin with of the nested machine.
+fn declared(rt: &impl Abort, alloc: Global) -> Declared {
+    let text = begun(rt, alloc, NESTED);
+    let value = read_value(alloc, text.as_bytes()).expect(rt, "a value");
+    read_declared(alloc, value).expect(rt, "declared shapes")
+}
+
+/// Whether the task of that name is declared to take and give every tree.
+fn is_open_task(declared: &Declared, name: &str) -> bool {
+    match declared.task(name) {
+        Some(task) => same(&task.takes, &Shape::Any) && same(&task.gives, &Shape::Any),
+        None => false,
     }
-    assert!(rt; declared.task("Idle").is_none());
-    Ok(())
 }
 
 #[test]
-fn a_machine_without_tasks_declares_its_input(rt: HostRuntime) -> Result<(), Fail> {
+fn what_is_declared_reads_back(rt: HostRuntime) {
+    let declared = declared(&rt, rt.alloc());
+    expect(&rt, same(&declared.input, &Shape::Any), "the input");
+    expect(&rt, declared.tasks.len() == 3, "three tasks");
+    for name in &["Ask", "Do \"it\"", "Zip"] {
+        expect(&rt, is_open_task(&declared, name), name);
+    }
+    expect(&rt, declared.task("Idle").is_none(), "no task of that name");
+}
+
+#[test]
+fn a_machine_without_tasks_declares_its_input(rt: HostRuntime) {
     let definition = r#"{"StartAt":"A","States":{"A":{"Type":"Succeed"}}}"#;
-    assert_eq!(rt;
-        begun(rt.alloc(), definition)?.as_str(),
-        "{\n  \"input\": true,\n  \"tasks\": {}\n}"
+    let wanted = "{\n  \"input\": true,\n  \"tasks\": {}\n}";
+    expect_text(
+        &rt,
+        begun(&rt, rt.alloc(), definition),
+        wanted,
+        &[definition],
     );
-    Ok(())
 }
