@@ -1,8 +1,9 @@
 //! Certificates that are inferred, and refusals, each call once with ample memory.
+use crate::given::{certificate, declared, machine};
+use crate::sameness::expect_inferred;
 use asl_infer::{InferRefusal, infer};
-use asl_records::{Certificate, StateShapes, read_certificate, read_declared};
-use asl_shape::{Shape, same};
-use asl_tree::{read_value, to_text};
+use asl_records::Certificate;
+use asl_tree::{Tree, to_text};
 use std::alloc::Global;
 use std::process::Abort;
 
@@ -11,120 +12,69 @@ fn inferred(
     rt: &impl Abort,
     alloc: Global,
     definition: &str,
-    declared: &str,
+    shapes: &str,
     rounds: u32,
 ) -> Result<Certificate, InferRefusal> {
-    let definition = read_value(alloc, definition.as_bytes()).expect(rt, "a value");
-    let declared = read_value(alloc, declared.as_bytes()).expect(rt, "a value");
-    let Ok(machine) = asl_machine::read(alloc, &definition) else {
-        return Err(InferRefusal::OutOfMemory);
-    };
-    let Ok(declared) = read_declared(alloc, declared) else {
-        return Err(InferRefusal::OutOfMemory);
-    };
+    let machine = machine(rt, alloc, definition);
+    let declared = declared(rt, alloc, shapes);
     infer(alloc, &machine, &declared, rounds)
 }
 
-/// Whether that certificate is inferred.
-fn infers(
+/// That certificate is inferred.
+fn expect_certificate(
     rt: &impl Abort,
     alloc: Global,
     definition: &str,
-    declared: &str,
+    shapes: &str,
     rounds: u32,
-    certificate: &str,
-) -> bool {
-    let certificate = read_value(alloc, certificate.as_bytes()).expect(rt, "a value");
-    let Ok(expected) = read_certificate(alloc, certificate) else {
-        return false;
-    };
-    match inferred(rt, alloc, definition, declared, rounds) {
-        Ok(certificate) => are_same(&certificate, &expected),
-        Err(_) => false,
+    wanted: &str,
+) {
+    let inferred = inferred(rt, alloc, definition, shapes, rounds).ok();
+    expect_inferred(rt, inferred, certificate(rt, alloc, wanted), definition);
+}
+
+/// The text as one of its own.
+fn owned(rt: &impl Abort, alloc: Global, text: &str) -> String {
+    String::from_str(alloc, text).expect(rt, "memory")
+}
+
+/// The state, the field and the fault of a finding.
+fn fault_text(rt: &impl Abort, alloc: Global, state: &str, field: &str, fault: &str) -> String {
+    format!(in alloc; "{state} {field} {fault}").expect(rt, "memory")
+}
+
+/// The text, and behind a space the tree that shows it, if any.
+fn showing(rt: &impl Abort, alloc: Global, text: String, example: Option<&Tree>) -> String {
+    match example {
+        Some(tree) => with_tree(rt, alloc, &text, tree),
+        None => text,
+    }
+}
+
+/// The text, and behind a space the tree.
+fn with_tree(rt: &impl Abort, alloc: Global, text: &str, tree: &Tree) -> String {
+    let example = to_text(alloc, tree).expect(rt, "a text");
+    format!(in alloc; "{text} {example}").expect(rt, "memory")
+}
+
+/// Why no certificate is inferred.
+fn refusal_text(rt: &impl Abort, alloc: Global, refusal: &InferRefusal) -> String {
+    match refusal {
+        InferRefusal::Finding(finding) => {
+            let (state, field) = (finding.state.as_str(), finding.field.as_str());
+            let text = fault_text(rt, alloc, state, field, finding.fault.name());
+            showing(rt, alloc, text, finding.example.as_ref())
+        }
+        InferRefusal::NotSettled => owned(rt, alloc, "not settled"),
+        InferRefusal::OutOfMemory => owned(rt, alloc, "out of memory"),
     }
 }
 
 /// What is told where no certificate is inferred.
-fn refusal(
-    rt: &impl Abort,
-    alloc: Global,
-    definition: &str,
-    declared: &str,
-    rounds: u32,
-) -> String {
-    match inferred(rt, alloc, definition, declared, rounds) {
-        Ok(_) => String::from_str(alloc, "a certificate").expect(rt, "memory"),
-        Err(InferRefusal::Finding(finding)) => {
-            let state = finding.state.as_str();
-            let field = finding.field.as_str();
-            let fault = finding.fault.name();
-            match &finding.example {
-                Some(tree) => {
-                    let example = to_text(alloc, tree).expect(rt, "a text");
-                    format!(in alloc; "{state} {field} {fault} {example}").expect(rt, "memory")
-                }
-                None => format!(in alloc; "{state} {field} {fault}").expect(rt, "memory"),
-            }
-        }
-        Err(InferRefusal::NotSettled) => String::from_str(alloc, "not settled").expect(
-            rt, "memory",
-        ),
-        Err(InferRefusal::OutOfMemory) => String::from_str(alloc, "out of memory").expect(
-            rt, "memory",
-        ),
-    }
-}
-
-/// Whether two certificates have the same shapes.
-pub(crate) fn are_same(first: &Certificate, second: &Certificate) -> bool {
-    if !same(&first.output, &second.output) || first.states.len() != second.states.len() {
-        return false;
-    }
-    for (name, entry) in first.states.iter() {
-        match second.states.get(name) {
-            Some(other) => {
-                if !are_same_entries(entry, other) {
-                    return false;
-                }
-            }
-            None => return false,
-        }
-    }
-    true
-}
-
-/// Whether two entries have the same shapes.
-fn are_same_entries(first: &StateShapes, second: &StateShapes) -> bool {
-    same(&first.input, &second.input)
-        && same(&first.output, &second.output)
-        && are_same_lists(&first.branches, &second.branches)
-        && are_same_items(&first.item, &second.item)
-}
-
-/// Whether two lists have the same shapes.
-fn are_same_lists(first: &[Shape], second: &[Shape]) -> bool {
-    let mut others = second.iter();
-    for shape in first {
-        match others.next() {
-            Some(other) => {
-                if !same(shape, other) {
-                    return false;
-                }
-            }
-            None => return false,
-        }
-    }
-    others.next().is_none()
-}
-
-/// Whether two shapes that may be there are the same.
-fn are_same_items(first: &Option<Shape>, second: &Option<Shape>) -> bool {
-    match first {
-        Some(shape) => match second {
-            Some(other) => same(shape, other),
-            None => false,
-        },
-        None => second.is_none(),
+fn refused(rt: &impl Abort, alloc: Global, definition: &str, shapes: &str, rounds: u32) -> String {
+    match inferred(rt, alloc, definition, shapes, rounds) {
+        Ok(_) => owned(rt, alloc, "a certificate"),
+        Err(refusal) => refusal_text(rt, alloc, &refusal),
     }
 }
 
@@ -236,51 +186,64 @@ pub(crate) const CERTIFICATES: [(&str, &str, u32, &str); 8] = [
 #[test]
 fn certificates(rt: HostRuntime) {
     let alloc = rt.alloc();
-    for &(definition, declared, rounds, certificate) in &CERTIFICATES {
-        let is_inferred = infers(&rt, alloc, definition, declared, rounds, certificate);
-        assert!(rt; is_inferred, "of {definition}");
+    for (definition, shapes, rounds, wanted) in &CERTIFICATES {
+        expect_certificate(&rt, alloc, definition, shapes, *rounds, wanted);
     }
+}
+
+/// A definition, what is declared, in how many rounds no certificate is inferred, and what is told.
+const REFUSALS: [(&str, &str, u32, &str); 15] = [
+    (PASS, INTEGER, 1, "not settled"),
+    (PASS, INTEGER, 0, "not settled"),
+    (LOOP, NO_FIELD, 33, "not settled"),
+    (STEEP_LOOP, NO_FIELD, 24, "not settled"),
+    (AGAINST_NAMES, INTEGER, 2, "not settled"),
+    (BRANCHES, TASKS, 2, "not settled"),
+    (TWO_RULES, TWO_FIELDS, 1, "not settled"),
+    (MAP, INTEGERS, 2, "not settled"),
+    (TWO_TASKS, TWO_EMPTY_LISTS, 17, "not settled"),
+    (CAUGHT, NULL_TO_INTEGER, 2, "not settled"),
+    (MAP, INTEGER, 3, "M ItemsPath WrongKind"),
+    (
+        PAST_BRANCHES,
+        TASKS,
+        3,
+        r#"N InputPath PathMayBeMissing [0,""]"#,
+    ),
+    (BRANCHES, INTEGER, 0, "T0 Resource TaskUndeclared"),
+    (
+        PASS,
+        r#"{"input":true,"tasks":{"A":{"gives":true}}}"#,
+        0,
+        "A tasks TaskUnknown",
+    ),
+    (
+        BRANCHES,
+        r#"{"input":true,"tasks":{"T0":{"takes":{"type":"string"},"gives":true},"T1":{"gives":true}}}"#,
+        3,
+        "T0 Parameters PayloadNotTaken []",
+    ),
+];
+
+/// The text is the one that is wanted of the definition.
+fn expect_text(rt: &impl Abort, told: String, wanted: &str, definition: &str) {
+    assert_eq!(*rt; told.as_str(), wanted, "of {definition}");
 }
 
 #[test]
 fn refusals(rt: HostRuntime) {
     let alloc = rt.alloc();
-    let vectors = &[
-        (PASS, INTEGER, 1, "not settled"),
-        (PASS, INTEGER, 0, "not settled"),
-        (LOOP, NO_FIELD, 33, "not settled"),
-        (STEEP_LOOP, NO_FIELD, 24, "not settled"),
-        (AGAINST_NAMES, INTEGER, 2, "not settled"),
-        (BRANCHES, TASKS, 2, "not settled"),
-        (TWO_RULES, TWO_FIELDS, 1, "not settled"),
-        (MAP, INTEGERS, 2, "not settled"),
-        (TWO_TASKS, TWO_EMPTY_LISTS, 17, "not settled"),
-        (CAUGHT, NULL_TO_INTEGER, 2, "not settled"),
-        (MAP, INTEGER, 3, "M ItemsPath WrongKind"),
-        (
-            PAST_BRANCHES,
-            TASKS,
-            3,
-            r#"N InputPath PathMayBeMissing [0,""]"#,
-        ),
-        (BRANCHES, INTEGER, 0, "T0 Resource TaskUndeclared"),
-        (
-            PASS,
-            r#"{"input":true,"tasks":{"A":{"gives":true}}}"#,
-            0,
-            "A tasks TaskUnknown",
-        ),
-        (
-            BRANCHES,
-            r#"{"input":true,"tasks":{"T0":{"takes":{"type":"string"},"gives":true},"T1":{"gives":true}}}"#,
-            3,
-            "T0 Parameters PayloadNotTaken []",
-        ),
-    ];
-    for &(definition, declared, rounds, wanted) in vectors {
-        let told = refusal(&rt, alloc, definition, declared, rounds);
-        assert_eq!(rt; told.as_str(), wanted, "of {definition}");
+    for (definition, shapes, rounds, wanted) in &REFUSALS {
+        let told = refused(&rt, alloc, definition, shapes, *rounds);
+        expect_text(&rt, told, wanted, definition);
     }
+}
+
+/// A certificate of the states A, Y and Z, of which each takes and gives that shape.
+fn of_three_states(rt: &impl Abort, alloc: Global, one: &str) -> String {
+    format!(in alloc;
+        "{{\"version\":1,\"output\":{one},\"states\":{{\"A\":{{\"input\":{one},\"output\":{one}}},\"Y\":{{\"input\":{one},\"output\":{one}}},\"Z\":{{\"input\":{one},\"output\":{one}}}}}}}"
+    ).expect(rt, "memory")
 }
 
 /// What flows to one state along two edges is joined.
@@ -289,21 +252,23 @@ fn edges_to_one_state(rt: HostRuntime) {
     let alloc = rt.alloc();
     let one =
         r#"{"type":"object","properties":{"a":{"type":"integer"},"b":{"type":"integer"}},"additionalProperties":false}"#;
-    let certificate = format!(in alloc;
-        "{{\"version\":1,\"output\":{one},\"states\":{{\"A\":{{\"input\":{one},\"output\":{one}}},\"Y\":{{\"input\":{one},\"output\":{one}}},\"Z\":{{\"input\":{one},\"output\":{one}}}}}}}"
-    ).expect(&rt, "memory");
-    let is_inferred = infers(&rt, alloc, TWO_RULES, TWO_FIELDS, 2, &certificate);
-    assert!(rt; is_inferred);
+    let wanted = of_three_states(&rt, alloc, one);
+    expect_certificate(&rt, alloc, TWO_RULES, TWO_FIELDS, 2, &wanted);
+}
+
+/// A closed object with an optional field `p`, in which a closed one has the shape in a field `q`.
+fn wrapped(rt: &impl Abort, alloc: Global, shape: &str) -> String {
+    let field = required(rt, alloc, "q", shape);
+    format!(in alloc;
+        "{{\"type\":\"object\",\"additionalProperties\":false,\"properties\":{{\"p\":{field}}}}}"
+    ).expect(rt, "memory")
 }
 
 /// The shape `inside`, within so many closed objects with an optional field `p`, in each a closed one with a field `q`.
 fn nested(rt: &impl Abort, alloc: Global, pairs: usize, inside: &str) -> String {
-    let mut shape = String::from_str(alloc, inside).expect(rt, "memory");
+    let mut shape = owned(rt, alloc, inside);
     for _ in 0..pairs {
-        let field = required(rt, alloc, "q", &shape);
-        shape = format!(in alloc;
-            "{{\"type\":\"object\",\"additionalProperties\":false,\"properties\":{{\"p\":{field}}}}}"
-        ).expect(rt, "memory");
+        shape = wrapped(rt, alloc, &shape);
     }
     shape
 }
@@ -315,16 +280,19 @@ fn required(rt: &impl Abort, alloc: Global, name: &str, shape: &str) -> String {
     ).expect(rt, "memory")
 }
 
+/// A certificate of the state A, which takes and gives these shapes and never ends.
+fn of_one_state(rt: &impl Abort, alloc: Global, input: &str, output: &str) -> String {
+    format!(in alloc;
+        "{{\"version\":1,\"output\":false,\"states\":{{\"A\":{{\"input\":{input},\"output\":{output}}}}}}}"
+    ).expect(rt, "memory")
+}
+
 #[test]
 fn deep_shapes_are_cut(rt: HostRuntime) {
     let alloc = rt.alloc();
     let input = nested(&rt, alloc, 24, "true");
-    let output = nested(&rt, alloc, 23, "true");
-    let output = required(&rt, alloc, "q", &output);
-    let output = required(&rt, alloc, "p", &output);
-    let certificate = format!(in alloc;
-        "{{\"version\":1,\"output\":false,\"states\":{{\"A\":{{\"input\":{input},\"output\":{output}}}}}}}"
-    ).expect(&rt, "memory");
-    let is_inferred = infers(&rt, alloc, STEEP_LOOP, NO_FIELD, 25, &certificate);
-    assert!(rt; is_inferred);
+    let inner = required(&rt, alloc, "q", &nested(&rt, alloc, 23, "true"));
+    let output = required(&rt, alloc, "p", &inner);
+    let wanted = of_one_state(&rt, alloc, &input, &output);
+    expect_certificate(&rt, alloc, STEEP_LOOP, NO_FIELD, 25, &wanted);
 }

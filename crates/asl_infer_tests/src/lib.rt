@@ -5,6 +5,10 @@
 #![tactic(auto)]
 
 #[cfg(test)]
+mod given;
+#[cfg(test)]
 mod inferring;
 #[cfg(test)]
 mod lenient;
+#[cfg(test)]
+mod sameness;
