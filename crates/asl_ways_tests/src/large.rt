@@ -1,7 +1,8 @@
 //! The visits of large machines.
 use crate::telling::read_records;
-use asl_ways::{visits, way_to};
+use asl_ways::{Visit, visits, way_to};
 use std::alloc::{AllocError, Global};
+use std::process::Abort;
 
 /// A machine of so many states, each of which leads to the next.
 fn chain(alloc: Global, count: usize) -> Result<String, AllocError> {
@@ -52,59 +53,78 @@ fn certificate(alloc: Global, entries: &str, last: &str) -> Result<String, Alloc
     )
 }
 
-#[test]
-fn a_long_chain(rt: HostRuntime) {
-    let alloc = rt.alloc();
-    let definition = chain(alloc, 2000).expect(&rt, "memory");
-    let entries = entries(alloc, "S", 1999).expect(&rt, "memory");
-    let certificate = certificate(alloc, &entries, "S1999").expect(&rt, "memory");
-    let mut read = read_records(
-        &rt,
-        alloc,
-        &definition,
-        r#"{"input":{"type":"string"},"tasks":{}}"#,
-        &certificate,
-    )
-    .expect(&rt, "records");
+/// The visits of a machine, at most so many.
+fn visits_of(
+    rt: &impl Abort,
+    alloc: Global,
+    definition: &str,
+    declared: &str,
+    certificate: &str,
+    most: usize,
+) -> Vec<Visit> {
+    let read = read_records(rt, alloc, definition, declared, certificate);
+    let mut read = read.expect(rt, "records");
     let all = visits(
         alloc,
         &read.machine,
         &read.declared,
         &mut read.certificate,
-        5000,
-    )
-    .expect(&rt, "memory");
-    assert_eq!(rt; all.len(), 2000);
-    let way = way_to(alloc, &all, 1999).expect(&rt, "memory");
-    assert_eq!(rt; way.len(), 2000);
+        most,
+    );
+    all.expect(rt, "memory")
+}
+
+/// The visits of a chain of 2,000 states.
+fn visits_of_chain(rt: &impl Abort, alloc: Global) -> Vec<Visit> {
+    let entries = entries(alloc, "S", 1999).expect(rt, "memory");
+    let certificate = certificate(alloc, &entries, "S1999").expect(rt, "memory");
+    let definition = chain(alloc, 2000).expect(rt, "memory");
+    let declared = r#"{"input":{"type":"string"},"tasks":{}}"#;
+    visits_of(rt, alloc, &definition, declared, &certificate, 5000)
+}
+
+/// The number is the one that is wanted.
+fn expect_number(rt: &impl Abort, found: usize, wanted: usize) {
+    assert_eq!(*rt; found, wanted);
+}
+
+/// The way to the last of so many visits goes over each of them in turn.
+fn expect_whole_way(rt: &impl Abort, alloc: Global, all: &[Visit], count: usize) {
+    let way = way_to(alloc, all, count.saturating_sub(1)).expect(rt, "memory");
+    expect_number(rt, way.len(), count);
     for (number, place) in way.iter().enumerate() {
-        assert_eq!(rt; number, *place);
+        expect_number(rt, number, *place);
     }
 }
 
 #[test]
-fn diamonds_in_a_row(rt: HostRuntime) {
+fn a_long_chain(rt: HostRuntime) {
     let alloc = rt.alloc();
-    let definition = diamonds(alloc, 20).expect(&rt, "memory");
-    let choices = entries(alloc, "C", 20).expect(&rt, "memory");
-    let sets = entries(alloc, "S", 20).expect(&rt, "memory");
-    let entries = format!(in alloc; "{choices}{sets}").expect(&rt, "memory");
-    let certificate = certificate(alloc, &entries, "C20").expect(&rt, "memory");
-    let mut read = read_records(
-        &rt,
-        alloc,
-        &definition,
-        r#"{"input":{"type":"object","properties":{"go":{"type":"boolean"}},"required":["go"],"additionalProperties":false},"tasks":{}}"#,
-        &certificate,
-    )
-    .expect(&rt, "records");
-    let all = visits(
-        alloc,
-        &read.machine,
-        &read.declared,
-        &mut read.certificate,
-        3000,
-    )
-    .expect(&rt, "memory");
-    assert_eq!(rt; all.len(), 3000);
+    let all = visits_of_chain(&rt, alloc);
+    expect_number(&rt, all.len(), 2000);
+    expect_whole_way(&rt, alloc, &all, 2000);
+}
+
+/// The entries of the Choices in a row and of the states that set a field.
+fn entries_of_diamonds(rt: &impl Abort, alloc: Global, count: usize) -> String {
+    let mut all = entries(alloc, "C", count).expect(rt, "memory");
+    let sets = entries(alloc, "S", count).expect(rt, "memory");
+    all.push_str(&sets).expect(rt, "memory");
+    all
+}
+
+/// The visits of 20 Choices in a row, at most 3,000.
+fn visits_of_diamonds(rt: &impl Abort, alloc: Global) -> Vec<Visit> {
+    let entries = entries_of_diamonds(rt, alloc, 20);
+    let certificate = certificate(alloc, &entries, "C20").expect(rt, "memory");
+    let definition = diamonds(alloc, 20).expect(rt, "memory");
+    let declared =
+        r#"{"input":{"type":"object","properties":{"go":{"type":"boolean"}},"required":["go"],"additionalProperties":false},"tasks":{}}"#;
+    visits_of(rt, alloc, &definition, declared, &certificate, 3000)
+}
+
+#[test]
+fn diamonds_in_a_row(rt: HostRuntime) {
+    let all = visits_of_diamonds(&rt, rt.alloc());
+    expect_number(&rt, all.len(), 3000);
 }

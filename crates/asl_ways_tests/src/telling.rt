@@ -5,6 +5,7 @@ ghost use Rattle.asl_records.specs.Numbered.{AreWithin};
 
 use crate::machines::Given;
 use asl_records::{Declared, NumberedCertificate, read_declared, read_numbered};
+use asl_shape::Shape;
 use asl_states::Machine;
 use asl_tree::{OutOfMemory, read_value};
 use asl_ways::{Arrival, Exit, Origin, Visit, arrivals, visits, way_to};
@@ -19,6 +20,20 @@ pub(crate) struct Records {
     pub(crate) certificate: NumberedCertificate,
 }
 
+/// The machine that the text spells.
+fn machine(rt: &impl Abort, alloc: Global, text: &str) -> Machine {
+    let definition = read_value(alloc, text.as_bytes()).expect(rt, "a value");
+    let read = asl_machine::read(alloc, &definition);
+    read.ok().expect(rt, "a machine")
+}
+
+/// The declared shapes that the text spells.
+fn declared_shapes(rt: &impl Abort, alloc: Global, text: &str) -> Declared {
+    let declared = read_value(alloc, text.as_bytes()).expect(rt, "a value");
+    let read = read_declared(alloc, declared);
+    read.ok().expect(rt, "declared shapes")
+}
+
 /// What the texts spell.
 pub(crate) fn read_records(
     rt: &impl Abort,
@@ -29,80 +44,96 @@ pub(crate) fn read_records(
 ) -> Result<Records, OutOfMemory>
     ensures { IfOk result (λ records. AreWithin records.certificate) }
 {
-    let definition = read_value(alloc, definition.as_bytes()).expect(rt, "a value");
-    let declared = read_value(alloc, declared.as_bytes()).expect(rt, "a value");
+    let machine = machine(rt, alloc, definition);
+    let declared = declared_shapes(rt, alloc, declared);
     let certificate = read_value(alloc, certificate.as_bytes()).expect(rt, "a value");
-    let Ok(machine) = asl_machine::read(alloc, &definition) else {
-        return Err(OutOfMemory);
-    };
-    let Ok(declared) = read_declared(alloc, declared) else {
-        return Err(OutOfMemory);
-    };
-    let Ok(certificate) = read_numbered(alloc, certificate) else {
-        return Err(OutOfMemory);
-    };
-    Ok(Records {
-        machine,
-        declared,
-        certificate,
-    })
+    match read_numbered(alloc, certificate) {
+        Ok(certificate) => Ok(Records {
+            machine,
+            declared,
+            certificate,
+        }),
+        Err(_) => Err(OutOfMemory),
+    }
 }
 
-/// A line for each of what comes: the state, the shape, and where it comes from.
-pub(crate) fn told_arrivals(rt: &impl Abort, alloc: Global, given: Given) -> String {
-    let mut read = read_records(
+/// The text is the one that is wanted of these givens.
+pub(crate) fn expect_text(rt: &impl Abort, told: String, wanted: &str, given: &[&str]) {
+    assert_eq!(*rt; told.as_str(), wanted, "{given:?}");
+}
+
+/// What a test is given, read.
+fn read_given(rt: &impl Abort, alloc: Global, given: &Given) -> Result<Records, OutOfMemory>
+    ensures { IfOk result (λ records. AreWithin records.certificate) }
+{
+    read_records(
         rt,
         alloc,
         given.definition,
         given.declared,
         given.certificate,
     )
-    .expect(rt, "records");
-    let all = arrivals(alloc, &read.machine, &read.declared, &mut read.certificate).expect(
-        rt, "memory",
-    );
+}
+
+/// A line for each of what comes: the state, the shape, and where it comes from.
+pub(crate) fn told_arrivals(rt: &impl Abort, alloc: Global, given: &Given) -> String {
+    let mut read = read_given(rt, alloc, given).expect(rt, "records");
+    let all = arrivals(alloc, &read.machine, &read.declared, &mut read.certificate);
+    arrival_lines(rt, alloc, &read, all.expect(rt, "memory"))
+}
+
+/// A line for each of what comes.
+fn arrival_lines(rt: &impl Abort, alloc: Global, read: &Records, all: Vec<Arrival>) -> String {
     let mut text = String::new(alloc);
     for arrival in &all {
-        let line = arrival_text(rt, alloc, &read, arrival);
+        let line = arrival_text(rt, alloc, read, arrival);
         text.push_str(&line).expect(rt, "memory");
-        text.push_str("\n").expect(rt, "memory");
+        text.push('\n').expect(rt, "memory");
     }
     text
 }
 
 /// A line for each visit: its number, what comes, and the way to it.
-pub(crate) fn told_visits(rt: &impl Abort, alloc: Global, given: Given, most: usize) -> String {
-    let mut read = read_records(
-        rt,
-        alloc,
-        given.definition,
-        given.declared,
-        given.certificate,
-    )
-    .expect(rt, "records");
+pub(crate) fn told_visits(rt: &impl Abort, alloc: Global, given: &Given, most: usize) -> String {
+    let mut read = read_given(rt, alloc, given).expect(rt, "records");
     let all = visits(
         alloc,
         &read.machine,
         &read.declared,
         &mut read.certificate,
         most,
-    )
-    .expect(rt, "memory");
+    );
+    visit_lines(rt, alloc, &read, all.expect(rt, "memory"))
+}
+
+/// A line for each visit.
+fn visit_lines(rt: &impl Abort, alloc: Global, read: &Records, all: Vec<Visit>) -> String {
     let mut text = String::new(alloc);
     for (place, visit) in all.iter().enumerate() {
-        let line = arrival_text(rt, alloc, &read, &visit.arrival);
+        let line = arrival_text(rt, alloc, read, &visit.arrival);
         let way = way_text(rt, alloc, &all, place);
-        let line = format!(in alloc; "{place}: {line}:{way}\n").expect(rt, "memory");
-        text.push_str(&line).expect(rt, "memory");
+        push_visit(rt, alloc, &mut text, place, &line, &way);
     }
     text
 }
 
+/// Pushes the line of a visit.
+fn push_visit(
+    rt: &impl Abort,
+    alloc: Global,
+    text: &mut String,
+    place: usize,
+    line: &str,
+    way: &str,
+) {
+    let line = format!(in alloc; "{place}: {line}:{way}\n").expect(rt, "memory");
+    text.push_str(&line).expect(rt, "memory");
+}
+
 /// The numbers of the visits on a way.
 fn way_text(rt: &impl Abort, alloc: Global, visits: &[Visit], last: usize) -> String {
-    let way = way_to(alloc, visits, last).expect(rt, "memory");
     let mut text = String::new(alloc);
-    for place in &way {
+    for place in &way_to(alloc, visits, last).expect(rt, "memory") {
         let word = format!(in alloc; " {place}").expect(rt, "memory");
         text.push_str(&word).expect(rt, "memory");
     }
@@ -113,33 +144,47 @@ fn way_text(rt: &impl Abort, alloc: Global, visits: &[Visit], last: usize) -> St
 fn arrival_text(rt: &impl Abort, alloc: Global, read: &Records, arrival: &Arrival) -> String {
     let state = read.machine.name(arrival.state).unwrap_or("?");
     let shape = shape_text(rt, alloc, read, arrival.shape);
-    let origin = match &arrival.origin {
+    let origin = start_or_origin(rt, alloc, read, &arrival.origin);
+    format!(in alloc; "{state} {shape} from {origin}").expect(rt, "memory")
+}
+
+/// Where it comes from, be it the start.
+fn start_or_origin(
+    rt: &impl Abort,
+    alloc: Global,
+    read: &Records,
+    origin: &Option<Origin>,
+) -> String {
+    match origin {
         Some(origin) => origin_text(rt, alloc, read, origin),
         None => String::from_str(alloc, "the start").expect(rt, "memory"),
-    };
-    format!(in alloc; "{state} {shape} from {origin}").expect(rt, "memory")
+    }
 }
 
 /// Where it comes from.
 fn origin_text(rt: &impl Abort, alloc: Global, read: &Records, origin: &Origin) -> String {
     let state = read.machine.name(origin.state).unwrap_or("?");
-    let exit = match origin.exit {
-        Exit::Next => format!(in alloc; "Next"),
-        Exit::Rule(number) => format!(in alloc; "Choices[{number}]"),
-        Exit::Default => format!(in alloc; "Default"),
-        Exit::Catcher(number) => format!(in alloc; "Catch[{number}]"),
-        Exit::Branch(number) => format!(in alloc; "Branches[{number}]"),
-        Exit::Items => format!(in alloc; "ItemProcessor"),
+    match origin.exit {
+        Exit::Next => format!(in alloc; "{state} Next"),
+        Exit::Rule(number) => format!(in alloc; "{state} Choices[{number}]"),
+        Exit::Default => format!(in alloc; "{state} Default"),
+        Exit::Catcher(number) => format!(in alloc; "{state} Catch[{number}]"),
+        Exit::Branch(number) => format!(in alloc; "{state} Branches[{number}]"),
+        Exit::Items => format!(in alloc; "{state} ItemProcessor"),
     }
-    .expect(rt, "memory");
-    format!(in alloc; "{state} {exit}").expect(rt, "memory")
+    .expect(rt, "memory")
 }
 
 /// The shape of that number, as it is written.
 fn shape_text(rt: &impl Abort, alloc: Global, read: &Records, number: usize) -> String {
-    let Some(shape) = read.certificate.shapes.expand(number).expect(rt, "memory") else {
-        return String::from_str(alloc, "?").expect(rt, "memory");
-    };
-    let tree = asl_shape::write(alloc, &shape).expect(rt, "memory");
+    match read.certificate.shapes.expand(number).expect(rt, "memory") {
+        Some(shape) => written(rt, alloc, &shape),
+        None => String::from_str(alloc, "?").expect(rt, "memory"),
+    }
+}
+
+/// The shape, as it is written.
+fn written(rt: &impl Abort, alloc: Global, shape: &Shape) -> String {
+    let tree = asl_shape::write(alloc, shape).expect(rt, "memory");
     asl_tree::to_text(alloc, &tree).expect(rt, "memory")
 }
