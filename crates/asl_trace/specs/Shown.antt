@@ -1,4 +1,4 @@
--- What stands in a line of a trace.
+-- What stands in a line of a trace. No public clause cites this module.
 use Rattle.std.specs.Prelude.{◌≡◌, ℕ, pos, List, [], ◌∷◌, ◌++◌, Option, IfSome, codes}
 use Rattle.std.specs.Borrow.{Bor}
 use Rattle.asl_model.specs.Json.{compact_text}

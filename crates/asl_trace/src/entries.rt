@@ -17,7 +17,8 @@ use asl_run::{Datum, Entry, Outcome};
 use asl_tree::OutOfMemory;
 
 impl Lines {
-    /// Adds the lines of the entries, in order. A refusal, for want of memory, may leave some of them.
+    /// Adds the lines of the entries, in order. A refusal, for want of memory, may leave some of them; no clause says what then
+    /// stands here.
     pub fn add(&mut self, entries: &[Entry]) -> Result<(), OutOfMemory>
         ensures { IfOk result (λ _. (told : List (List ℕ × model.Entry))
             → map entry_view entries.now ≡ map placed_entry told
