@@ -1,9 +1,7 @@
 //! From standard input or files to a verdict on standard output.
 
 use crate::command_line::TextFiles;
-use crate::endings::finish_with;
-use crate::files::{file_text, input_source};
-use crate::printing::print_verdict;
+use asl_files::{file_text, finish_with, input_source, print_verdict};
 use asl_tool::{Closing, RunFault, ToWrite, Verdict};
 use std::io;
 use std::rt::Files;

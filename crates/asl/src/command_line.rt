@@ -5,9 +5,11 @@ use crate::commands::{
     FILES, FORMAT, INPUT, MAX_STEPS, NUMBERED, OPEN, ORDER, SAMPLE, SHAPES, SHELL, STATE, SUITE,
     command_named, program,
 };
-use crate::files::is_input;
+use asl_files::is_input;
 use asl_graph::Format as GraphFormat;
+use asl_linting::{Format, LintRequest};
 use asl_results::Format as ReportFormat;
+use asl_testing::TestRequest;
 use asl_tool::Pick;
 use clap::error::ErrorKind;
 use clap::{ArgMatches, Error};
@@ -77,31 +79,6 @@ pub(crate) struct RunRequest<'a> {
     pub(crate) max_steps: u64,
 }
 
-/// Which definitions are looked at, and how it is told.
-#[derive(Drop)]
-pub(crate) struct LintRequest<'a> {
-    /// Files and folders, at least one.
-    pub(crate) names: Vec<&'a str>,
-    /// The file with the declared shapes of all of them.
-    pub(crate) declared: Option<&'a str>,
-    pub(crate) format: Format,
-    /// Whether a warning weighs as much as an error.
-    pub(crate) deny_warnings: bool,
-}
-
-/// How diagnostics are written.
-#[derive(Clone, Copy)]
-pub(crate) enum Format {
-    /// A line for each, for people.
-    Text,
-    /// A JSON list.
-    Json,
-    /// A log in SARIF.
-    Sarif,
-    /// Commands for a workflow of GitHub.
-    Github,
-}
-
 /// What is explained, of the texts in these files.
 #[derive(Drop)]
 pub(crate) struct ExplainRequest<'a> {
@@ -117,18 +94,6 @@ pub(crate) struct ShapeRequest<'a> {
     pub(crate) names: Vec<&'a str>,
     /// Whether objects may have other fields than the samples have.
     pub(crate) is_open: bool,
-}
-
-/// Which suites are tested, and how it is told.
-#[derive(Drop)]
-pub(crate) struct TestRequest<'a> {
-    /// Files, at least one.
-    pub(crate) names: Vec<&'a str>,
-    /// The name of the only case that is to be run.
-    pub(crate) case: Option<&'a str>,
-    pub(crate) format: ReportFormat,
-    /// Whether it is told what no case took.
-    pub(crate) coverage: bool,
 }
 
 /// Of what a picture is printed, by the names of the files with the texts, and how.

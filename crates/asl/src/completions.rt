@@ -7,8 +7,7 @@ mod zsh;
 
 use crate::command_line::Shell;
 use crate::commands::{FILES, program};
-use crate::endings::{end, or_out_of_memory};
-use crate::printing::print_text;
+use asl_files::{end, or_out_of_memory, print_text};
 use asl_tool::RunFault;
 use asl_tree::OutOfMemory;
 use clap::builder::{ValueParser, ValueRange};

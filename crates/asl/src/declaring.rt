@@ -1,8 +1,6 @@
 //! From a definition to declared shapes to begin with, on standard output.
 
-use crate::endings::{end, or_out_of_memory};
-use crate::files::text_or_status;
-use crate::printing::print_line;
+use asl_files::{end, or_out_of_memory, print_line, text_or_status};
 use asl_samples::declared_text;
 use asl_tool::{RunFault, read_definition};
 use std::rt::Files;

@@ -1,41 +1,9 @@
-//! How the program ends: the line on standard error and the exit status.
+//! How the program ends where its command line asks for nothing that it does.
 
-use asl_tool::{Closing, RunFault, closing};
-use asl_tree::OutOfMemory;
+use asl_files::finish;
+use asl_tool::{Closing, RunFault};
 use clap::Error;
 use clap::error::ErrorKind;
-
-/// Writes the closing's line to standard error and gives its exit status.
-pub(crate) fn finish<R: Eprint + AllocGlobal>(rt: &R, end: &Closing) -> u8 {
-    match closing(rt.alloc(), end) {
-        Ok((status, line)) => tell(rt, status, &line),
-        Err(_) => tell(rt, 5, "out of memory\n"),
-    }
-}
-
-/// Ends a command with what it came to, or with its fault, as [`finish`] does.
-pub(crate) fn finish_with<R: Eprint + AllocGlobal>(rt: &R, ended: Result<Closing, RunFault>) -> u8 {
-    match ended {
-        Ok(end) => finish(rt, &end),
-        Err(fault) => finish(rt, &Closing::Fault(fault)),
-    }
-}
-
-/// Gives the exit status of a command that tells it, or ends with its fault, as [`finish`] does.
-pub(crate) fn end<R: Eprint + AllocGlobal>(rt: &R, ended: Result<u8, RunFault>) -> u8 {
-    match ended {
-        Ok(status) => status,
-        Err(fault) => finish(rt, &Closing::Fault(fault)),
-    }
-}
-
-/// What was made, or that there was no memory to make it.
-pub(crate) fn or_out_of_memory<T>(made: Result<T, OutOfMemory>) -> Result<T, RunFault> {
-    match made {
-        Ok(made) => Ok(made),
-        Err(_) => Err(RunFault::OutOfMemory),
-    }
-}
 
 /// Prints what clap says of a refused command line to standard error, or the help or version that was asked for to
 /// standard output, and gives the exit status. Want of memory and help that can't be written end as they do elsewhere.
@@ -51,12 +19,4 @@ pub(crate) fn refuse<R: Print + Eprint + AllocGlobal>(rt: &R, error: &Error) -> 
         Ok(()) => 0,
         Err(_) => finish(rt, &Closing::Fault(RunFault::Write)),
     }
-}
-
-/// Writes a line to standard error, where there is one. Where that fails there is nobody to tell.
-fn tell<R: Eprint>(rt: &R, status: u8, line: &str) -> u8 {
-    if !line.is_empty() {
-        let _ = rt.eprint(line);
-    }
-    status
 }

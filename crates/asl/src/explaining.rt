@@ -1,11 +1,8 @@
 //! From a definition and declared shapes to explanations, on standard output.
 
 use crate::command_line::ExplainRequest;
-use crate::endings::{end, finish, or_out_of_memory};
-use crate::files::text_or_status;
-use crate::inferring::ROUNDS;
-use crate::printing::print_text;
 use asl_explain::{Explained, explain_texts};
+use asl_files::{ROUNDS, end, finish, or_out_of_memory, print_text, text_or_status};
 use asl_tool::{Closing, RunFault};
 use asl_tree::{OutOfMemory, quoted};
 use std::alloc::Global;

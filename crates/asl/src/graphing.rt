@@ -1,10 +1,7 @@
 //! From a definition to a picture of it, on standard output.
 
 use crate::command_line::GraphRequest;
-use crate::endings::{end, finish};
-use crate::files::text_or_status;
-use crate::inferring::ROUNDS;
-use crate::printing::print_text;
+use asl_files::{ROUNDS, end, finish, print_text, text_or_status};
 use asl_graph::{Drawn, graph_texts};
 use asl_tool::{Closing, RunFault};
 use std::rt::Files;

@@ -1,16 +1,11 @@
 //! From files to an inferred certificate, or to the verdict on it, on standard output.
 
 use crate::command_line::{InferRequest, MachineFiles};
-use crate::endings::finish_with;
-use crate::files::file_text;
-use crate::printing::{print_line, print_verdict};
+use asl_files::{ROUNDS, file_text, finish_with, print_line, print_verdict};
 use asl_tool::{
     Closing, Finding, Inferred, RunFault, Verdict, Verified, infer_texts, verify_inferred,
 };
 use std::rt::Files;
-
-/// How many rounds an inference may take.
-pub(crate) const ROUNDS: u32 = 4096;
 
 /// Infers a certificate of the texts in two files, writes it to standard output, and gives the exit status.
 pub(crate) fn infer_files<R: Files + Input + Print + Eprint + AllocGlobal>(

@@ -15,20 +15,15 @@ mod command_line;
 mod commands;
 mod completions;
 mod declaring;
-mod definitions;
 mod endings;
 mod explaining;
-mod files;
 mod graphing;
 mod inferring;
-mod linting;
-mod printing;
-mod reports;
 mod running;
 mod sampling;
-mod suites;
-mod testing;
 
+use asl_linting::lint_files;
+use asl_testing::test_files;
 use checking::{check_files, check_input};
 use command_line::{Request, asked, words};
 use completions::print_completions;
@@ -37,12 +32,10 @@ use endings::refuse;
 use explaining::explain_files;
 use graphing::graph_file;
 use inferring::{infer_files, verify_files};
-use linting::lint_files;
 use running::run_files;
 use sampling::shape_files;
 use std::process::ExitCode;
 use std::rt::{Env, Files};
-use testing::test_files;
 
 fn main(rt: HostRuntime) -> ExitCode {
     ExitCode::from(run(&rt))

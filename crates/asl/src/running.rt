@@ -1,8 +1,7 @@
 //! From files to the trace of a run on standard output.
 
 use crate::command_line::RunRequest;
-use crate::endings::finish_with;
-use crate::files::{file_source, file_text, input_source, is_input};
+use asl_files::{file_source, file_text, finish_with, input_source, is_input};
 use asl_tool::{Closing, RunFault, Source, ToWrite};
 use std::io;
 use std::rt::Files;

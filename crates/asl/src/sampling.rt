@@ -1,10 +1,8 @@
 //! From samples of data to the shape that they have in common, on standard output.
 
 use crate::command_line::ShapeRequest;
-use crate::endings::{end, or_out_of_memory};
-use crate::files::text_or_why;
-use crate::printing::print_line;
 use asl_diagnostics::rule_of_text;
+use asl_files::{end, or_out_of_memory, print_line, text_or_why};
 use asl_samples::{opened, shape_of, shape_text};
 use asl_shape::Shape;
 use asl_tool::RunFault;

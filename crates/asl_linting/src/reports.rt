@@ -1,13 +1,25 @@
 //! What a run of the command `lint` tells: diagnostics, lines for standard error, and an exit status.
 
-use crate::command_line::Format;
-use crate::printing::with_break;
 use asl_diagnostics::{
     Diagnostic, Severity, github_lines, json_text, sarif_text, sort, text_lines,
 };
+use asl_files::with_break;
 use asl_lint::Linted;
 use asl_tree::{OutOfMemory, in_line, same};
 use std::alloc::Global;
+
+/// How diagnostics are written.
+#[derive(Clone, Copy)]
+pub enum Format {
+    /// A line for each, for people.
+    Text,
+    /// A JSON list.
+    Json,
+    /// A log in SARIF.
+    Sarif,
+    /// Commands for a workflow of GitHub.
+    Github,
+}
 
 /// What was found so far.
 #[derive(Drop)]

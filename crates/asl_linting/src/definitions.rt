@@ -1,7 +1,7 @@
 //! Which definitions are meant by the names of files and folders.
 
-use crate::files::{Unread, is_input};
 use crate::reports::Report;
+use asl_files::{Unread, is_input};
 use asl_tree::OutOfMemory;
 use std::fs::{self, DirEntry, FileType};
 use std::io::{Error, ErrorKind};

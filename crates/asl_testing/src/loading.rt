@@ -1,8 +1,8 @@
 //! Suites of test cases with the files that they name.
 
-use crate::files::{is_input, text_or_why};
 use asl_cases::mistake_in;
 use asl_diagnostics::rule_of_text;
+use asl_files::{is_input, text_or_why};
 use asl_machine::Machine;
 use asl_records::Declared;
 use asl_suites::{

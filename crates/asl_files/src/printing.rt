@@ -8,7 +8,7 @@ use std::io::{self, Write};
 /// Writes a text to standard output.
 ///
 /// Refused: Write.
-pub(crate) fn print_text<R: Print>(rt: &R, text: &str) -> Result<(), RunFault> {
+pub fn print_text<R: Print>(rt: &R, text: &str) -> Result<(), RunFault> {
     match io::writer(rt).write_all(text.as_bytes()) {
         Ok(()) => Ok(()),
         Err(_) => Err(RunFault::Write),
@@ -18,12 +18,12 @@ pub(crate) fn print_text<R: Print>(rt: &R, text: &str) -> Result<(), RunFault> {
 /// Writes a text and a line break to standard output.
 ///
 /// Refused: Write; OutOfMemory.
-pub(crate) fn print_line<R: Print>(rt: &R, text: String) -> Result<(), RunFault> {
+pub fn print_line<R: Print>(rt: &R, text: String) -> Result<(), RunFault> {
     print_text(rt, &or_out_of_memory(with_break(text))?)
 }
 
 /// The text and a line break.
-pub(crate) fn with_break(mut text: String) -> Result<String, OutOfMemory> {
+pub fn with_break(mut text: String) -> Result<String, OutOfMemory> {
     text.push_str("\n")?;
     Ok(text)
 }
@@ -31,9 +31,6 @@ pub(crate) fn with_break(mut text: String) -> Result<String, OutOfMemory> {
 /// Writes the lines of a verdict to standard output.
 ///
 /// Refused: Write; OutOfMemory.
-pub(crate) fn print_verdict<R: Print + AllocGlobal>(
-    rt: &R,
-    verdict: &Verdict,
-) -> Result<(), RunFault> {
+pub fn print_verdict<R: Print + AllocGlobal>(rt: &R, verdict: &Verdict) -> Result<(), RunFault> {
     print_text(rt, &or_out_of_memory(verdict_text(rt.alloc(), verdict))?)
 }

@@ -10,7 +10,7 @@ use std::rt::Files;
 
 /// Why a file or folder can't be looked at.
 #[derive(Drop)]
-pub(crate) enum Unread {
+pub enum Unread {
     /// The system says so.
     Failed(Error),
     /// A text can't be read, or is too long.
@@ -19,7 +19,7 @@ pub(crate) enum Unread {
 
 impl Unread {
     /// Whether nothing is there.
-    pub(crate) fn is_absence(&self) -> bool {
+    pub fn is_absence(&self) -> bool {
         match self {
             Unread::Failed(error) => error.kind() == ErrorKind::NotFound,
             Unread::Fault(_) => false,
@@ -29,7 +29,7 @@ impl Unread {
     /// The reason in words.
     ///
     /// Refused: OutOfMemory, also where that is the reason.
-    pub(crate) fn words(&self, alloc: Global) -> Result<String, OutOfMemory> {
+    pub fn words(&self, alloc: Global) -> Result<String, OutOfMemory> {
         match self {
             Unread::Fault(RunFault::OutOfMemory) => Err(OutOfMemory),
             Unread::Fault(fault) => Ok(format!(in alloc; "{fault}")?),
@@ -53,17 +53,14 @@ impl Unread {
 const INPUT: &str = "-";
 
 /// Whether that name of a file stands for standard input.
-pub(crate) fn is_input(name: &str) -> bool {
+pub fn is_input(name: &str) -> bool {
     name == INPUT
 }
 
 /// All bytes of a file, or of standard input.
 ///
 /// Refused: Read where it can't be opened or read; TooLong; OutOfMemory.
-pub(crate) fn file_text<R: Files + Input + AllocGlobal>(
-    rt: &R,
-    name: &str,
-) -> Result<Vec<u8>, RunFault> {
+pub fn file_text<R: Files + Input + AllocGlobal>(rt: &R, name: &str) -> Result<Vec<u8>, RunFault> {
     if is_input(name) {
         input_text(rt)
     } else {
@@ -75,7 +72,7 @@ pub(crate) fn file_text<R: Files + Input + AllocGlobal>(
 /// The bytes of a file, which is opened and not read yet.
 ///
 /// Refused: Read where it can't be opened.
-pub(crate) fn file_source<R: Files>(rt: &R, name: &str) -> Result<FromRead<R::File>, RunFault> {
+pub fn file_source<R: Files>(rt: &R, name: &str) -> Result<FromRead<R::File>, RunFault> {
     match fs::open(rt, name) {
         Ok(file) => Ok(FromRead::new(file)),
         Err(_) => Err(RunFault::Read),
@@ -90,15 +87,12 @@ fn input_text<R: Input + AllocGlobal>(rt: &R) -> Result<Vec<u8>, RunFault> {
 }
 
 /// The bytes of standard input, of which none is read yet.
-pub(crate) fn input_source<R: Input>(rt: &R) -> FromRead<R::Reader> {
+pub fn input_source<R: Input>(rt: &R) -> FromRead<R::Reader> {
     FromRead::new(rt.reader())
 }
 
 /// All bytes of a file, or of standard input, or why they can't be read.
-pub(crate) fn text_or_why<R: Files + Input + AllocGlobal>(
-    rt: &R,
-    name: &str,
-) -> Result<Vec<u8>, Unread> {
+pub fn text_or_why<R: Files + Input + AllocGlobal>(rt: &R, name: &str) -> Result<Vec<u8>, Unread> {
     let text = if is_input(name) {
         input_text(rt)
     } else {
@@ -115,7 +109,7 @@ pub(crate) fn text_or_why<R: Files + Input + AllocGlobal>(
 
 /// All bytes of a file, or of standard input. Where it can't be read, its name and the reason go to standard error, and the
 /// exit status comes back.
-pub(crate) fn text_or_status<R: Files + Input + Eprint + AllocGlobal>(
+pub fn text_or_status<R: Files + Input + Eprint + AllocGlobal>(
     rt: &R,
     name: &str,
 ) -> Result<Vec<u8>, u8> {

@@ -1,13 +1,11 @@
 //! From suites of test cases to which of them pass, on standard output.
 
-use crate::command_line::TestRequest;
-use crate::endings::{end, or_out_of_memory};
-use crate::printing::print_text;
-use crate::suites::{Loaded, LoadedCase, Unfit, load};
+use crate::loading::{Loaded, LoadedCase, Unfit, load};
 use asl_cases::{Coverage, difference, play};
+use asl_files::{end, or_out_of_memory, print_text};
 use asl_machine::Machine;
 use asl_records::Declared;
-use asl_results::{CaseResult, SuiteResult, report};
+use asl_results::{CaseResult, Format, SuiteResult, report};
 use asl_tool::RunFault;
 use asl_tree::{OutOfMemory, in_line, quoted};
 use std::alloc::Global;
@@ -15,6 +13,18 @@ use std::rt::Files;
 
 /// How many steps the run of a case takes at most.
 const MOST_STEPS: u64 = 1_000_000;
+
+/// Which suites are tested, and how it is told.
+#[derive(Drop)]
+pub struct TestRequest<'a> {
+    /// Files, at least one.
+    pub names: Vec<&'a str>,
+    /// The name of the only case that is to be run.
+    pub case: Option<&'a str>,
+    pub format: Format,
+    /// Whether it is told what no case took.
+    pub coverage: bool,
+}
 
 /// What was tested so far.
 #[derive(Drop)]
@@ -28,7 +38,7 @@ struct Tests {
 
 /// Plays the cases of the suites in files, writes which pass to standard output, and gives the exit status: 1 where one
 /// doesn't, 2 where a suite can't be used, or none has the case that is asked for, which is told on standard error.
-pub(crate) fn test_files<R: Files + Input + Print + Eprint + AllocGlobal>(
+pub fn test_files<R: Files + Input + Print + Eprint + AllocGlobal>(
     rt: &R,
     request: &TestRequest<'_>,
 ) -> u8 {

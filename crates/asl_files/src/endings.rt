@@ -1,0 +1,44 @@
+//! How the program ends: the line on standard error and the exit status.
+
+use asl_tool::{Closing, RunFault, closing};
+use asl_tree::OutOfMemory;
+
+/// Writes the closing's line to standard error and gives its exit status.
+pub fn finish<R: Eprint + AllocGlobal>(rt: &R, end: &Closing) -> u8 {
+    match closing(rt.alloc(), end) {
+        Ok((status, line)) => tell(rt, status, &line),
+        Err(_) => tell(rt, 5, "out of memory\n"),
+    }
+}
+
+/// Ends a command with what it came to, or with its fault, as [`finish`] does.
+pub fn finish_with<R: Eprint + AllocGlobal>(rt: &R, ended: Result<Closing, RunFault>) -> u8 {
+    match ended {
+        Ok(end) => finish(rt, &end),
+        Err(fault) => finish(rt, &Closing::Fault(fault)),
+    }
+}
+
+/// Gives the exit status of a command that tells it, or ends with its fault, as [`finish`] does.
+pub fn end<R: Eprint + AllocGlobal>(rt: &R, ended: Result<u8, RunFault>) -> u8 {
+    match ended {
+        Ok(status) => status,
+        Err(fault) => finish(rt, &Closing::Fault(fault)),
+    }
+}
+
+/// What was made, or that there was no memory to make it.
+pub fn or_out_of_memory<T>(made: Result<T, OutOfMemory>) -> Result<T, RunFault> {
+    match made {
+        Ok(made) => Ok(made),
+        Err(_) => Err(RunFault::OutOfMemory),
+    }
+}
+
+/// Writes a line to standard error, where there is one. Where that fails there is nobody to tell.
+fn tell<R: Eprint>(rt: &R, status: u8, line: &str) -> u8 {
+    if !line.is_empty() {
+        let _ = rt.eprint(line);
+    }
+    status
+}

@@ -1,0 +1,16 @@
+//! What the commands of the program `asl` have in common: the texts in files and on standard input, what goes to standard
+//! output, how a command ends, and how many rounds an inference may take.
+#![tactic(auto)]
+
+mod endings;
+mod files;
+mod printing;
+
+pub use endings::{end, finish, finish_with, or_out_of_memory};
+pub use files::{
+    Unread, file_source, file_text, input_source, is_input, text_or_status, text_or_why,
+};
+pub use printing::{print_line, print_text, print_verdict, with_break};
+
+/// How many rounds an inference may take.
+pub const ROUNDS: u32 = 4096;
