@@ -4,6 +4,10 @@
 //! people, JSON for programs, JUnit's XML for CI.
 #![tactic(auto)]
 
+ghost use Rattle.std.specs.Prelude.{◌≡◌, IfOk, string_bytes};
+ghost use Rattle.asl_results.specs.Report.{report_text};
+
+mod counting;
 mod coverage;
 mod escaping;
 mod json_format;
@@ -43,7 +47,8 @@ pub enum Format {
     Junit,
 }
 
-/// The report of suites, in their order, ended by a line break. Refuses only where an allocation was refused.
+/// The report of suites, in their order, ended by a line break. Refuses only where memory runs out: an allocation was
+/// refused, or there are 2^64 cases or more, of which no memory has room for a report.
 ///
 /// - [`Format::Text`]: a line for each case, `ok    NAME` or `FAIL  NAME: DIFFERENCE`; behind those of a suite whose
 ///   coverage was asked for a line `not covered: LINE` for each thing that lacks, or `everything is covered`; and the
@@ -56,63 +61,12 @@ pub enum Format {
 /// - [`Format::Junit`]: `testsuites` with a `testsuite` for each suite, in it a `testcase` for each case, with a
 ///   `failure` where it failed, and the lines on coverage as `system-out`. Characters that XML 1.0 forbids are replaced
 ///   by U+FFFD.
-pub fn report(
-    alloc: Global,
-    suites: &[SuiteResult],
-    format: Format,
-) -> Result<String, OutOfMemory> {
+pub fn report(alloc: Global, suites: &[SuiteResult], format: Format) -> Result<String, OutOfMemory>
+    ensures { IfOk result (λ text. string_bytes text ≡ report_text format suites.now) }
+{
     match format {
         Format::Text => text_format::written(alloc, suites),
         Format::Json => json_format::written(alloc, suites),
         Format::Junit => junit_format::written(alloc, suites),
-    }
-}
-
-impl CaseResult {
-    /// Whether the run differs from what is expected.
-    fn is_failed(&self) -> bool {
-        self.difference.is_some()
-    }
-}
-
-/// How many cases passed, and how many failed.
-#[derive(Clone, Copy)]
-struct Counts {
-    passed: usize,
-    failed: usize,
-}
-
-impl Counts {
-    /// The counts of a suite.
-    fn of(suite: &SuiteResult) -> Counts {
-        let failed = suite.cases.iter().filter(|it| it.is_failed()).count();
-        Counts {
-            passed: suite.cases.len().saturating_sub(failed),
-            failed,
-        }
-    }
-
-    /// The counts of all suites together.
-    fn of_all(suites: &[SuiteResult]) -> Counts {
-        suites.iter().map(Counts::of).fold(
-            Counts {
-                passed: 0,
-                failed: 0,
-            },
-            Counts::and,
-        )
-    }
-
-    /// These and others.
-    fn and(self, other: Counts) -> Counts {
-        Counts {
-            passed: self.passed.saturating_add(other.passed),
-            failed: self.failed.saturating_add(other.failed),
-        }
-    }
-
-    /// How many cases these are.
-    fn all(self) -> usize {
-        self.passed.saturating_add(self.failed)
     }
 }

@@ -1,0 +1,4 @@
+mod Counts
+mod Digits
+mod Suites
+mod WrittenFields
