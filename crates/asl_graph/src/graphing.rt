@@ -1,9 +1,11 @@
 //! From texts to pictures.
 
-ghost use Rattle.std.specs.Prelude.{◌≡◌, IfErr, IfSome, None};
+ghost use Rattle.std.specs.Prelude.{◌≡◌, IfErr, IfOk, IfSome, None, Ok};
+ghost use Rattle.asl_model.specs.Names.{Bytes};
 ghost use Rattle.asl_tool.specs.Inferred.{InferFaultStands};
-ghost use Rattle.asl_tool.specs.Subjects.{DefinitionFaultStands};
+ghost use Rattle.asl_tool.specs.Subjects.{DefinitionFaultStands, Describes};
 ghost use Rattle.asl_tool.specs.declared.refusals.RunFault.TheVariants as faults;
+ghost use Rattle.asl_graph.specs.Answers.{Draws, DrawsAlone};
 
 use crate::drawing::Drawer;
 use crate::known::Known;
@@ -27,9 +29,9 @@ pub enum Drawn {
 /// Draws the states of a definition, given as a JSON text, and the lines between them.
 ///
 /// With declared shapes, also a JSON text, a certificate is inferred leniently in at most `max_rounds` rounds, as
-/// [`infer_leniently`](asl_infer::infer_leniently) does. States at which it breaks a rule are marked, and so are states
-/// whose certified input no tree has. With `with_shapes` the lines tell the shapes of what flows along them; without
-/// declared shapes nothing is known of that.
+/// [`infer_leniently`](asl_infer::infer_leniently) does; where its rounds don't settle, nothing is drawn. States at which it
+/// breaks a rule are marked, and so are states whose certified input no tree has. With `with_shapes` the lines tell the shapes
+/// of what flows along them; without declared shapes nothing is known of that.
 ///
 /// Refused as by [`read_subject`]; without declared shapes as by [`read_definition`].
 pub fn graph_texts<'t>(
@@ -40,6 +42,9 @@ pub fn graph_texts<'t>(
     with_shapes: bool,
     max_rounds: u32,
 ) -> Result<Drawn, RunFault>
+    ensures drawn { IfSome declared.entry (λ text.
+        IfOk result (Draws max_rounds definition.now text.now)) }
+    ensures drawn_alone { declared.entry ≡ None → IfOk result (DrawsAlone definition.now) }
     ensures refused { IfSome declared.entry (λ text.
         IfErr result (InferFaultStands definition.now text.now)) }
     ensures refused_alone { declared.entry ≡ None
@@ -59,19 +64,22 @@ pub fn graph_texts<'t>(
 
 /// Draws a definition of which nothing is declared.
 fn draw_alone(alloc: Global, definition: &[u8], format: Format) -> Result<Drawn, RunFault>
+    ensures drawn { IfOk result (DrawsAlone definition.now) }
     ensures refused { IfErr result (DefinitionFaultStands definition.now) }
 {
     let machine = read_definition(alloc, definition)?;
     let known: Option<Known> = None;
-    drawn_or_fault(graph_of(alloc, definition, &machine, known.as_ref(), format))
+    let picture = picture_of(alloc, definition, &machine, known.as_ref(), format);
+    Ok(Drawn::Graph(or_out_of_memory(picture)?))
 }
 
-/// What is drawn, or that memory ran out.
-fn drawn_or_fault(drawn: Result<Drawn, OutOfMemory>) -> Result<Drawn, RunFault>
+/// What was made, or that memory ran out.
+fn or_out_of_memory<T: Drop>(made: Result<T, OutOfMemory>) -> Result<T, RunFault>
+    ensures made { IfOk result (λ it. made ≡ Ok it) }
     ensures refused { IfErr result (λ fault. fault ≡ faults.OutOfMemory) }
 {
-    match drawn {
-        Ok(drawn) => Ok(drawn),
+    match made {
+        Ok(made) => Ok(made),
         Err(_) => Err(RunFault::OutOfMemory),
     }
 }
@@ -88,42 +96,39 @@ struct Request<'t> {
 impl Request<'_> {
     /// Draws it with these declared shapes.
     fn draw(&self, alloc: Global, declared: &[u8]) -> Result<Drawn, RunFault>
+        ensures drawn { IfOk result
+            (Draws self.now.max_rounds self.now.definition.now declared.now) }
         ensures refused { IfErr result (InferFaultStands self.now.definition.now declared.now) }
     {
         let subject = read_subject(alloc, self.definition, declared)?;
-        drawn_or_fault(self.draw_subject(alloc, &subject))
+        or_out_of_memory(self.draw_subject(alloc, &subject))
     }
 
     /// Draws what the two texts read as.
-    fn draw_subject(&self, alloc: Global, subject: &Subject) -> Result<Drawn, OutOfMemory> {
-        let known = Known::find(
-            alloc,
-            &subject.machine,
-            &subject.declared,
-            self.with_shapes,
-            self.max_rounds,
-        )?;
-        match known {
-            Some(known) => graph_of(
-                alloc,
-                self.definition,
-                &subject.machine,
-                Some(&known),
-                self.format,
-            ),
-            None => Ok(Drawn::NotSettled),
-        }
+    fn draw_subject(&self, alloc: Global, subject: &Subject) -> Result<Drawn, OutOfMemory>
+        ensures { (definition : Bytes) (declared : Bytes)
+            → Describes definition declared subject.now
+            → IfOk result (Draws self.now.max_rounds definition declared) }
+    {
+        let Subject { machine, declared } = subject;
+        let Some(known) =
+            Known::find(alloc, machine, declared, self.with_shapes, self.max_rounds)?
+        else {
+            return Ok(Drawn::NotSettled);
+        };
+        let picture = picture_of(alloc, self.definition, machine, Some(&known), self.format)?;
+        Ok(Drawn::Graph(picture))
     }
 }
 
 /// The picture of a machine, the states in the order of its definition.
-fn graph_of<'m>(
+fn picture_of<'m>(
     alloc: Global,
     definition: &[u8],
     machine: &'m Machine,
     known: Option<&'m Known>,
     format: Format,
-) -> Result<Drawn, OutOfMemory> {
+) -> Result<String, OutOfMemory> {
     let numbers = written_order(alloc, machine, definition)?;
     let scopes = Scopes::of(alloc, machine, &numbers)?;
     let drawer = Drawer {
@@ -132,5 +137,5 @@ fn graph_of<'m>(
         scopes,
         known,
     };
-    Ok(Drawn::Graph(drawer.picture(format)?))
+    drawer.picture(format)
 }
