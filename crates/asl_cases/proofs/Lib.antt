@@ -3,5 +3,10 @@ mod Around
 mod Asked
 mod Chains
 mod Items
+mod Lacks
 mod NamedKinds
+mod Noted
+mod Numbered
+mod Recorded
 mod Steps
+mod WaysOut

@@ -1,3 +1,5 @@
 pub mod Asking
+pub mod Coverage
 pub mod Playing
 pub mod Stepping
+pub mod Taking

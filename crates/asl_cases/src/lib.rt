@@ -7,8 +7,10 @@
 
 mod asking;
 mod coverage;
+mod covered;
 mod differing;
 mod judging;
+mod lacking;
 mod mistakes;
 mod paths;
 mod playing;

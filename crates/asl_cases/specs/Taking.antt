@@ -1,0 +1,31 @@
+-- What an entry takes, as the code finds it. No public clause cites this module.
+use Rattle.std.specs.Prelude.{ℕ, Bool, true, false, nat_eq, Option, Some, None, slice_set}
+use Rattle.std.specs.Option.{option_map_or}
+use Rattle.asl_model.specs.Machine.{State}
+use Rattle.asl_model.specs.Run.{Entry}
+use Rattle.asl_cases.specs.Coverage.{Flags, Part, takes}
+use Rattle.asl_cases.specs.declared.covered.Taken.{Taken}
+use Rattle.asl_cases.specs.declared.covered.Taken.TheVariants as ways
+
+-- a Choice is left by the rule of that number
+abbrev pub is_rule : ℕ → Option Taken → Bool
+is_rule i None = false
+is_rule i (Some (ways.Rule number)) = nat_eq number i
+is_rule i (Some ways.Default) = false
+
+-- a Choice is left by `Default`
+abbrev pub is_default : Option Taken → Bool
+is_default None = false
+is_default (Some (ways.Rule number)) = false
+is_default (Some ways.Default) = true
+
+-- an entry that is told takes that part of the state of which it tells
+abbrev pub takes_told : State → Option Entry → Part → Bool
+takes_told state entry part = option_map_or (λ e. takes state e part) entry false
+
+-- what is noted of a state once it was entered, and left so if it is a Choice
+abbrev pub left_by : Option Taken → Flags → Flags
+left_by None flags = record flags { entered = true }
+left_by (Some (ways.Rule number)) flags =
+    record flags { entered = true; rules = slice_set flags.rules number true }
+left_by (Some ways.Default) flags = record flags { entered = true; default = true }
