@@ -21,6 +21,10 @@ last_seen f [] = refl
 last_seen f (x ∷ []) = refl
 last_seen f (x ∷ y ∷ ys) = last_seen f (y ∷ ys)
 
+-- the last entry, as it is seen
+pub last_entry : (trace : List Entry) (last : Option (Bor Entry)) → option_copied last ≡ slice_get trace (length trace - 1) → last_of (map entry_view trace) ≡ option_map entry_view (option_copied last)
+last_entry trace last is = last_seen entry_view trace ∙ ap (option_map entry_view) (sym (is ∙ last_by_number trace))
+
 -- the place of the last entry, if it tells that a task was asked
 pub asked_of : (trace : List Entry) (last : Option (Bor Entry)) → option_copied last ≡ slice_get trace (length trace - 1)
     → place_asked (map entry_view trace) ≡ unwrap_or (option_map (λ e. let told = entry_view e in place_in told.0 told.1) (option_copied last)) []

@@ -8,5 +8,7 @@ mod NamedKinds
 mod Noted
 mod Numbered
 mod Recorded
+mod Passing
+mod Remainders
 mod Steps
 mod WaysOut

@@ -57,7 +57,8 @@ impl Covered {
         ensures { (taken : Part → Bool) → let told = entry_view entry.now in
             let shown = state_view state.now in
             view empty.now ≡ Object NoFields → flags_view self.old ≡ flags_of taken shown
-            → flags_view self.new ≡ flags_of (λ part. taken part || takes_told shown told.1 part) shown }
+            → flags_view self.new
+            ≡ flags_of (λ part. taken part || takes_told shown told.1 part) shown }
     {
         match entry {
             Entry::Enter { input, .. } => self.enter(state, input, empty),
@@ -78,7 +79,8 @@ impl Covered {
         ensures { (taken : Part → Bool) (n : List ℕ) → let shown = state_view state.now in
             view empty.now ≡ Object NoFields → flags_view self.old ≡ flags_of taken shown
             → flags_view self.new
-            ≡ flags_of (λ part. taken part || takes shown (model.Entered n (view raw.now)) part) shown }
+            ≡ flags_of
+            (λ part. taken part || takes shown (model.Entered n (view raw.now)) part) shown }
     {
         self.leave(taken_at(state, raw, empty));
     }

@@ -1,10 +1,15 @@
 //! What differs from what a case expects.
 
+ghost use Rattle.std.specs.Prelude.{◌≡◌, ◌↔◌, None, map, option_map, string_bytes, IfOk, IfSome};
+ghost use Rattle.asl_run.specs.Entries.{entry_view, outcome_view};
+ghost use Rattle.asl_tree.specs.View.{view};
+ghost use Rattle.asl_cases.specs.Judging.{HasPassed, IsEnd, path_of};
+
 use crate::differing::first_difference;
 use crate::playing::{End, Played};
 use crate::sequences::{difference_of_paths, difference_of_payloads};
 use crate::words::{counted, expected_found, quoted_text, tree_text};
-use asl_run::Outcome;
+use asl_run::{Entry, Outcome};
 use asl_states::Machine;
 use asl_suites::{Expected, ExpectedEnd};
 use asl_tree::{OutOfMemory, Tree, quoted};
@@ -21,21 +26,18 @@ pub fn difference(
     machine: &Machine,
     played: &Played,
     expected: &Expected,
-) -> Result<Option<String>, OutOfMemory> {
+) -> Result<Option<String>, OutOfMemory>
+    ensures passed { IfOk result (λ words. words ≡ None
+        ↔ HasPassed expected.now (map entry_view played.now.trace.items)) }
+{
     let Some(outcome) = played.outcome() else {
         return Ok(Some(why_no_outcome(alloc, machine, played.end)?));
     };
-    if let Some(end) = &expected.end {
-        let words = difference_of_ends(alloc, end, outcome)?;
-        if words.is_some() {
-            return Ok(words);
-        }
+    if let Some(words) = difference_at_end(alloc, expected, outcome)? {
+        return Ok(Some(words));
     }
-    if let Some(path) = &expected.path {
-        let words = difference_of_paths(alloc, path, &played.trace)?;
-        if words.is_some() {
-            return Ok(words);
-        }
+    if let Some(words) = difference_in_path(alloc, expected, &played.trace)? {
+        return Ok(Some(words));
     }
     difference_of_payloads(alloc, &expected.payloads, &played.trace)
 }
@@ -83,12 +85,45 @@ fn turn_text(alloc: Global, attempt: usize, item: Option<usize>) -> Result<Strin
     }
 }
 
+/// How the run's end differs, where one is expected.
+fn difference_at_end(
+    alloc: Global,
+    expected: &Expected,
+    found: &Outcome,
+) -> Result<Option<String>, OutOfMemory>
+    ensures { IfOk result (λ words. words ≡ None
+        ↔ IfSome expected.now.end (λ end. IsEnd end (outcome_view found.now))) }
+{
+    match &expected.end {
+        Some(end) => difference_of_ends(alloc, end, found),
+        None => Ok(None),
+    }
+}
+
+/// How the run's path differs, where one is expected.
+fn difference_in_path(
+    alloc: Global,
+    expected: &Expected,
+    trace: &[Entry],
+) -> Result<Option<String>, OutOfMemory>
+    ensures { IfOk result (λ words. words ≡ None ↔ IfSome expected.now.path
+        (λ path. path_of (map entry_view trace.now) ≡ map string_bytes path.items)) }
+{
+    match &expected.path {
+        Some(path) => difference_of_paths(alloc, path, trace),
+        None => Ok(None),
+    }
+}
+
 /// How the ends differ.
 fn difference_of_ends(
     alloc: Global,
     expected: &ExpectedEnd,
     found: &Outcome,
-) -> Result<Option<String>, OutOfMemory> {
+) -> Result<Option<String>, OutOfMemory>
+    ensures { IfOk result (λ words. words ≡ None
+        ↔ IsEnd expected.now (outcome_view found.now)) }
+{
     match (expected, found) {
         (ExpectedEnd::Output(expected), Outcome::Output(found)) => {
             difference_of_outputs(alloc, expected, found)
@@ -118,7 +153,9 @@ fn difference_of_outputs(
     alloc: Global,
     expected: &Tree,
     found: &Tree,
-) -> Result<Option<String>, OutOfMemory> {
+) -> Result<Option<String>, OutOfMemory>
+    ensures { IfOk result (λ words. words ≡ None ↔ view found.now ≡ view expected.now) }
+{
     match first_difference(alloc, expected, found)? {
         Some(difference) => {
             let words = difference.words(alloc)?;
@@ -135,7 +172,10 @@ fn difference_of_errors(
     expected_cause: Option<&str>,
     found: &str,
     found_cause: &str,
-) -> Result<Option<String>, OutOfMemory> {
+) -> Result<Option<String>, OutOfMemory>
+    ensures { IfOk result (λ words. words ≡ None ↔ (found.now ≡ expected.now)
+        × IfSome expected_cause.entry (λ cause. found_cause.now ≡ cause.now)) }
+{
     if expected != found {
         let expected = error_text(alloc, expected, expected_cause.unwrap_or(""))?;
         let found = error_text(alloc, found, found_cause)?;

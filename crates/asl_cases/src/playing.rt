@@ -1,16 +1,18 @@
 //! Playing a case: a machine runs on its input, with its answers.
 
-ghost use Rattle.std.specs.Prelude.{◌≡◌, map, option_map, IfOk};
+ghost use Rattle.std.specs.Prelude.{◌≡◌, map, option_and_then, option_map, IfOk};
 ghost use Rattle.asl_states.specs.Table.{Shows};
 ghost use Rattle.asl_model.specs.Certificate.{gives_of};
 ghost use Rattle.asl_model.specs.Machine.{Scope};
 ghost use Rattle.asl_model.specs.Run as model;
 ghost use Rattle.asl_model.specs.Shape.{has as has_shape};
 ghost use Rattle.asl_records.specs.View.{declared_view};
-ghost use Rattle.asl_run.specs.Entries.{answer_view, entry_view, event_view};
+ghost use Rattle.asl_run.specs.Entries.{answer_view, entry_view, event_view, outcome_view};
 ghost use Rattle.asl_run.specs.Running.{IsRunOf, run_view};
 ghost use Rattle.asl_suites.specs.View.{answers_under};
 ghost use Rattle.asl_tree.specs.View.{view};
+ghost use Rattle.asl_cases.specs.Asking.{last_of};
+ghost use Rattle.asl_cases.specs.Judging.{outcome_in};
 ghost use Rattle.asl_cases.specs.Playing.{ComesTo, IsRun, case_of, fits_input, stage_of};
 ghost use Rattle.asl_cases.specs.Stepping.{EndsWith, IsAsked, IsGoing, StepsTo, TakesSo, fits_task};
 
@@ -35,11 +37,25 @@ pub struct Played {
 
 impl Played {
     /// How the run has ended; none where it hasn't.
-    pub(crate) fn outcome(&self) -> Option<&Outcome> {
+    pub(crate) fn outcome(&self) -> Option<&Outcome>
+        ensures { option_map (λ outcome. outcome_view outcome.now) result
+            ≡ option_and_then outcome_in (last_of (map entry_view self.now.trace.items)) }
+    {
         match self.trace.last() {
-            Some(Entry::Ended { at, outcome }) if at.is_empty() => Some(outcome),
-            _ => None,
+            Some(entry) => outcome_in(entry),
+            None => None,
         }
+    }
+}
+
+/// The outcome of the run, where the entry tells its end.
+fn outcome_in(entry: &Entry) -> Option<&Outcome>
+    ensures { option_map (λ outcome. outcome_view outcome.now) result
+        ≡ outcome_in (entry_view entry.now) }
+{
+    match entry {
+        Entry::Ended { at, outcome } if at.is_empty() => Some(outcome),
+        _ => None,
     }
 }
 

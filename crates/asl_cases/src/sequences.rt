@@ -1,5 +1,11 @@
 //! How the path and the payloads of a run differ from those that a case expects.
 
+ghost use Rattle.std.specs.Prelude.{◌≡◌, ◌↔◌, Some, None, All, map, option_map, slice_get, string_bytes, IfOk};
+ghost use Rattle.std.specs.Option.{IsSome};
+ghost use Rattle.asl_run.specs.Entries.{entry_view};
+ghost use Rattle.asl_tree.specs.View.{view};
+ghost use Rattle.asl_cases.specs.Judging.{AreAsked, asked_in, entered_in, path_of, payloads_of};
+
 use crate::differing::first_difference;
 use crate::words::{counted, expected_found, tree_text};
 use asl_run::Entry;
@@ -12,25 +18,59 @@ pub(crate) fn difference_of_paths(
     alloc: Global,
     path: &[String],
     trace: &[Entry],
-) -> Result<Option<String>, OutOfMemory> {
-    let mut entered = trace.iter().filter_map(entered_state);
-    for (step, expected) in path.iter().enumerate() {
-        match entered.next() {
-            Some(found) if found == expected.as_str() => {}
-            found => return step_words(alloc, step, Some(expected), found),
+) -> Result<Option<String>, OutOfMemory>
+    ensures { IfOk result (λ words. words ≡ None
+        ↔ path_of (map entry_view trace.now) ≡ map string_bytes path.now) }
+{
+    let mut step = 0;
+    for entry in trace {
+        if let Some(found) = entered_state(entry) {
+            let expected = name_at(path, step);
+            if let Some(words) = difference_at_step(alloc, step, expected, found)? {
+                return Ok(Some(words));
+            }
+            step += 1;
         }
     }
-    match entered.next() {
-        Some(found) => step_words(alloc, path.len(), None, Some(found)),
+    match name_at(path, step) {
+        Some(expected) => step_words(alloc, step, Some(expected), None),
         None => Ok(None),
     }
 }
 
+/// The name at a step of the path.
+fn name_at(path: &[String], step: usize) -> Option<&str>
+    ensures { option_map (λ name. name.now) result ≡ slice_get (map string_bytes path.now) step }
+{
+    match path.get(step) {
+        Some(name) => Some(name),
+        None => None,
+    }
+}
+
 /// The state that an entry says is entered.
-fn entered_state(entry: &Entry) -> Option<&str> {
+fn entered_state(entry: &Entry) -> Option<&str>
+    ensures { option_map (λ name. name.now) result ≡ entered_in (entry_view entry.now) }
+{
     match entry {
         Entry::Enter { state, .. } => Some(state),
         _ => None,
+    }
+}
+
+/// How the state that is entered at that step differs from the one that is expected there.
+fn difference_at_step(
+    alloc: Global,
+    step: usize,
+    expected: Option<&str>,
+    found: &str,
+) -> Result<Option<String>, OutOfMemory>
+    ensures { IfOk result (λ words. words ≡ None
+        ↔ option_map (λ name. name.now) expected.entry ≡ Some found.now) }
+{
+    match expected {
+        Some(expected) if expected == found => Ok(None),
+        _ => step_words(alloc, step, expected, Some(found)),
     }
 }
 
@@ -40,7 +80,9 @@ fn step_words(
     step: usize,
     expected: Option<&str>,
     found: Option<&str>,
-) -> Result<Option<String>, OutOfMemory> {
+) -> Result<Option<String>, OutOfMemory>
+    ensures { IfOk result IsSome }
+{
     let step = counted(alloc, step)?;
     let expected = name_text(alloc, expected)?;
     let found = name_text(alloc, found)?;
@@ -61,7 +103,10 @@ pub(crate) fn difference_of_payloads(
     alloc: Global,
     expected: &[ExpectedPayloads],
     trace: &[Entry],
-) -> Result<Option<String>, OutOfMemory> {
+) -> Result<Option<String>, OutOfMemory>
+    ensures { IfOk result (λ words. words ≡ None
+        ↔ All (AreAsked (map entry_view trace.now)) expected.now) }
+{
     for of_state in expected {
         let name = of_state.state.as_str();
         if let Some(words) = difference_at_state(alloc, name, &of_state.payloads, trace)? {
@@ -78,26 +123,61 @@ fn difference_at_state(
     name: &str,
     expected: &[Tree],
     trace: &[Entry],
-) -> Result<Option<String>, OutOfMemory> {
-    let mut payloads = trace.iter().filter_map(|entry| payload_of(name, entry));
-    for (number, tree) in expected.iter().enumerate() {
-        let Some(found) = payloads.next() else {
-            return one_sided(alloc, number, Some(tree), None);
-        };
-        if let Some(difference) = first_difference(alloc, tree, found)? {
-            let number = counted(alloc, number)?;
-            let words = difference.words(alloc)?;
-            return Ok(Some(format!(in alloc; "number {number}: {words}")?));
+) -> Result<Option<String>, OutOfMemory>
+    ensures { IfOk result (λ words. words ≡ None
+        ↔ payloads_of name.now (map entry_view trace.now) ≡ map view expected.now) }
+{
+    let mut number = 0;
+    for entry in trace {
+        if let Some(found) = payload_of(name, entry) {
+            let tree = tree_at(expected, number);
+            if let Some(words) = difference_of_payload(alloc, number, tree, found)? {
+                return Ok(Some(words));
+            }
+            number += 1;
         }
     }
-    match payloads.next() {
-        Some(found) => one_sided(alloc, expected.len(), None, Some(found)),
+    match tree_at(expected, number) {
+        Some(tree) => one_sided(alloc, number, Some(tree), None),
         None => Ok(None),
     }
 }
 
+/// How the payload of that number differs from the one that is expected there.
+fn difference_of_payload(
+    alloc: Global,
+    number: usize,
+    expected: Option<&Tree>,
+    found: &Tree,
+) -> Result<Option<String>, OutOfMemory>
+    ensures { IfOk result (λ words. words ≡ None
+        ↔ option_map (λ tree. view tree.now) expected.entry ≡ Some (view found.now)) }
+{
+    let Some(tree) = expected else {
+        return one_sided(alloc, number, None, Some(found));
+    };
+    match first_difference(alloc, tree, found)? {
+        Some(difference) => {
+            let number = counted(alloc, number)?;
+            let words = difference.words(alloc)?;
+            Ok(Some(format!(in alloc; "number {number}: {words}")?))
+        }
+        None => Ok(None),
+    }
+}
+
+/// The payload of that number.
+fn tree_at(payloads: &[Tree], number: usize) -> Option<&Tree>
+    ensures { option_map (λ tree. view tree.now) result ≡ slice_get (map view payloads.now) number }
+{
+    payloads.get(number)
+}
+
 /// The payload that an entry says the task of the state is asked with.
-fn payload_of<'e>(name: &str, entry: &'e Entry) -> Option<&'e Tree> {
+fn payload_of<'e>(name: &str, entry: &'e Entry) -> Option<&'e Tree>
+    ensures { option_map (λ tree. view tree.now) result
+        ≡ asked_in name.now (entry_view entry.now) }
+{
     match entry {
         Entry::Task { state, payload, .. } if state.as_str() == name => Some(payload),
         _ => None,
@@ -110,7 +190,9 @@ fn one_sided(
     number: usize,
     expected: Option<&Tree>,
     found: Option<&Tree>,
-) -> Result<Option<String>, OutOfMemory> {
+) -> Result<Option<String>, OutOfMemory>
+    ensures { IfOk result IsSome }
+{
     let number = counted(alloc, number)?;
     let expected = payload_text(alloc, expected)?;
     let found = payload_text(alloc, found)?;
