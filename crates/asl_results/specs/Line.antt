@@ -27,11 +27,11 @@ four_digits n = replicate (4 - length (digits 16 false n)) 48 ++ digits 16 false
 unfoldable pub long_escape : ℕ → Bytes
 long_escape c = if needs_escape c then codes "\\u" ++ four_digits c else encode_utf8 c
 
--- with the short escape where it has one
+-- a character as it stands in a line: by its short escape where it has one
 abbrev pub line_char : ℕ → Bytes
 line_char c = unwrap_or (short_escape c) (long_escape c)
 
--- a text with each character so, by which it stays in its line
+-- a text with each character so: it stays in its line
 abbrev pub in_line : Bytes → Bytes
 in_line text = flat_map line_char (chars text)
 
@@ -41,7 +41,7 @@ in_line text = flat_map line_char (chars text)
 abbrev pub lacking_line : String Global → Bytes
 lacking_line line = codes "not covered: " ++ (in_line (string_bytes line) ++ line_break)
 
--- a line for each thing that isn't covered, or the one that there is none
+-- a line for each thing that isn't covered, or one line where there is none
 abbrev pub coverage_text : List (String Global) → Bytes
 coverage_text [] = codes "everything is covered\n"
 coverage_text (line ∷ lines) = flat_map lacking_line (line ∷ lines)

@@ -19,7 +19,7 @@ impl fmt::Display for InLine<'_> {
     }
 }
 
-/// Puts down a text so.
+/// Writes a text as it stands in a line.
 fn write_in_line<W: fmt::Write>(f: &mut fmt::Formatter<W>, text: &str) -> fmt::Result
     ensures { WritesOnOk W.write_str_gives f.old result (in_line text.now) f.new }
 {
@@ -52,7 +52,7 @@ fn needs_escape(c: char) -> bool
     matches!(c, '\0'..='\u{1f}' | '\u{7f}'..='\u{9f}' | '\u{2028}' | '\u{2029}')
 }
 
-/// Puts down a character, by its number where it needs an escape.
+/// Writes a character, by its number where it needs an escape.
 #[tactic(auto, using(crate::proofs::Digits::padded_to_four), unfolding(crate::specs::Line::long_escape))]
 fn write_long<W: fmt::Write>(f: &mut fmt::Formatter<W>, c: char) -> fmt::Result
     ensures { WritesOnOk W.write_str_gives f.old result (long_escape c) f.new }
@@ -85,7 +85,7 @@ impl fmt::Display for InXml<'_> {
     }
 }
 
-/// Puts down a text so.
+/// Writes a text with the escapes that it needs there in XML.
 fn write_in_xml<W: fmt::Write>(f: &mut fmt::Formatter<W>, part: Part, text: &str) -> fmt::Result
     ensures { WritesOnOk W.write_str_gives f.old result (in_xml part text.now) f.new }
 {
