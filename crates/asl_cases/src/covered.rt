@@ -78,8 +78,7 @@ impl Covered {
     fn enter(&mut self, state: &State, raw: &Tree, empty: &Tree)
         ensures { (taken : Part → Bool) (n : List ℕ) → let shown = state_view state.now in
             view empty.now ≡ Object NoFields → flags_view self.old ≡ flags_of taken shown
-            → flags_view self.new
-            ≡ flags_of
+            → flags_view self.new ≡ flags_of
             (λ part. taken part || takes shown (model.Entered n (view raw.now)) part) shown }
     {
         self.leave(taken_at(state, raw, empty));
