@@ -111,8 +111,7 @@ impl Request<'_> {
             → IfOk result (Draws self.now.max_rounds definition declared) }
     {
         let Subject { machine, declared } = subject;
-        let Some(known) =
-            Known::find(alloc, machine, declared, self.with_shapes, self.max_rounds)?
+        let Some(known) = Known::find(alloc, machine, declared, self.with_shapes, self.max_rounds)?
         else {
             return Ok(Drawn::NotSettled);
         };

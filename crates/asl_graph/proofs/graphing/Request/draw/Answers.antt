@@ -1,11 +1,20 @@
 use Rattle.std.proofs.Common.{sym, subst}
-use Rattle.std.proofs.lemmas.Result.{IfErr-weaker}
+use Rattle.std.proofs.lemmas.Result.{IfErr-weaker, IfOk-at_ok, IfOk-weaker}
 use Rattle.asl_tool.specs.Inferred.{InferFaultStands}
+use Rattle.asl_graph.specs.Answers.{Draws}
 use Rattle.asl_graph.proofs.graphing.Request.draw.Goals as goal
 
-pub returns : goal.returns
-returns c =
+pub returns-clause-drawn : goal.returns-clause-drawn
+returns-clause-drawn c =
     let definition = c.args.self.now.definition.now in
     let declared = c.args.declared.now in
-    let told = c.drawn_or_fault in
-    record { refused = IfErr-weaker told.result _ _ (λ fault same. subst (InferFaultStands definition declared) (sym same) tt) told.ensures.refused }
+    let drawn = c.draw_subject.ensures definition declared c.in_ok-subject.ensures.read in
+    let told = c.or_out_of_memory in
+    IfOk-weaker told.result _ _ (λ it same. IfOk-at_ok (Draws c.args.self.now.max_rounds definition declared) same drawn) told.ensures.made
+
+pub returns-clause-refused : goal.returns-clause-refused
+returns-clause-refused c =
+    let definition = c.args.self.now.definition.now in
+    let declared = c.args.declared.now in
+    let told = c.or_out_of_memory in
+    IfErr-weaker told.result _ _ (λ fault same. subst (InferFaultStands definition declared) (sym same) tt) told.ensures.refused
