@@ -1,17 +1,16 @@
 -- How many parts are lacking, and that none are exactly where everything is covered.
-use Rattle.std.proofs.Common.{◌≡◌, ℕ, zero, suc, ◌+◌, ◌<◌, ◌≤◌, Bool, true, false, not, ◌&&◌, cond, List, [], ◌∷◌, ◌++◌, map, length, take, drop, refl, sym, ap, ◌∙◌, subst, arith, Option, Some, None}
-use Rattle.std.specs.Prelude.{◌↔◌, IsTrue, slice_get, option_map, option_to_list, All, nat_lt}
-use Rattle.std.specs.Option.{unwrap_or}
+use Rattle.std.proofs.Common.{◌≡◌, ℕ, zero, suc, ◌+◌, ◌<◌, ◌≤◌, Bool, true, false, not, ◌&&◌, cond, List, [], ◌∷◌, ◌++◌, map, length, drop, refl, sym, ap, ◌∙◌, subst, arith, Some}
+use Rattle.std.specs.Prelude.{◌↔◌, IsTrue, slice_get, All, nat_lt}
 use Rattle.std.specs.List.{enumerate_from, filter, flat_map, range_with_len}
-use Rattle.std.proofs.lemmas.Bool.{false≢true, le-ltb, lt-ltb}
+use Rattle.std.proofs.lemmas.Bool.{le-ltb, lt-ltb}
 use Rattle.std.proofs.lemmas.List.{drop_all, length-append, nil_from_length}
 use Rattle.std.proofs.lemmas.List.Elements.{All-cons, All-head, All-nil, All-tail, filter-append}
 use Rattle.std.proofs.lemmas.List.FromFn.{filter_of_map_range_with_len_more}
 use Rattle.std.proofs.lemmas.Option.{none-some, same_Some}
-use Rattle.asl_model.specs.Machine.{State, StateOf, Settings, Kind, Retrier}
+use Rattle.asl_model.specs.Machine.{State, StateOf, Retrier}
 use Rattle.asl_model.specs.Numbering.{Table}
 use Rattle.asl_run.specs.Driving.{Told}
-use Rattle.asl_cases.specs.Coverage.{IsCovered, Part, Itself, RuleAt, ByDefault, RetrierAt, CatcherAt, by_number, default_of, is_taken, lacking, lacking_of, parts_of, retriers_in, rules_of, untaken}
+use Rattle.asl_cases.specs.Coverage.{IsCovered, Part, Itself, RetrierAt, is_taken, lacking, lacking_of, parts_of, untaken}
 
 -- ---- no part of a state is lacking
 

@@ -1,6 +1,6 @@
 -- What is noted of a state, with what an entry takes.
-use Rattle.std.proofs.Common.{◌≡◌, ℕ, Bool, true, false, ◌||◌, ◌&&◌, List, [], ◌∷◌, ◌++◌, map, length, set, replicate, refl, sym, ap, ◌∙◌, Option, Some, None, String, Global, Vec, string_bytes}
-use Rattle.std.specs.Prelude.{nat_eq, option_map}
+use Rattle.std.proofs.Common.{◌≡◌, ℕ, Bool, true, false, ◌||◌, List, set, refl, sym, ap, ◌∙◌, Option, Some, None, String, Global, Vec, string_bytes}
+use Rattle.std.specs.Prelude.{nat_eq}
 use Rattle.asl_model.specs.Faults.{DataFlowError}
 use Rattle.std.proofs.lemmas.Bool.{or_right}
 use Rattle.std.proofs.lemmas.Option.{none-some}
@@ -15,7 +15,7 @@ use Rattle.asl_run.specs.Entries.{entry_view, error_named, raised_view}
 use Rattle.asl_run.specs.declared.entries.Entry as code
 use Rattle.asl_run.specs.declared.entries.Entry.TheVariants as entries
 use Rattle.asl_cases.specs.declared.covered.Taken.TheVariants as ways
-use Rattle.asl_cases.proofs.Numbered.{marked, none_set, or_none, same_by_number}
+use Rattle.asl_cases.proofs.Numbered.{marked, or_none, same_by_number}
 
 -- ---- the same flags
 

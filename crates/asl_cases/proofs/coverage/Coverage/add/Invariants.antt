@@ -1,4 +1,4 @@
-use Rattle.std.proofs.Common.{◌≡◌, ◌++◌, map, take}
+use Rattle.std.proofs.Common.{◌++◌, map, take}
 use Rattle.asl_states.specs.Table.{table_view}
 use Rattle.asl_run.specs.Entries.{entry_view}
 use Rattle.asl_run.specs.Driving.{Told}

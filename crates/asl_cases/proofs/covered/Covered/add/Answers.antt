@@ -3,7 +3,7 @@ use Rattle.asl_model.specs.Run as model
 use Rattle.asl_states.specs.Machine.{kind_view, settings_view, state_view}
 use Rattle.asl_tree.specs.View.{view}
 use Rattle.asl_run.specs.Entries.{entry_view}
-use Rattle.asl_cases.specs.Coverage.{Part, flags_of, flags_view, takes}
+use Rattle.asl_cases.specs.Coverage.{flags_of, flags_view, takes}
 use Rattle.asl_cases.specs.Taking.{takes_told}
 use Rattle.asl_cases.proofs.Noted.{caught_more, raised_more, retried_more}
 use Rattle.asl_cases.proofs.covered.Covered.add.Goals as goal
