@@ -18,13 +18,9 @@ ghost use Rattle.asl_explain.specs.Answers.{ExplainsFindings, ExplainsState};
 ghost use Rattle.asl_explain.specs.Outcomes.{Answers, AreFindings, SettlesLeniently};
 ghost use Rattle.asl_explain.specs.declared.explaining.Explained.TheVariants as answers;
 
-use crate::flows::{Explainer, Flows};
-use crate::heads::is_repeated;
-use crate::telling::push_alone;
-use crate::walking::Walks;
-use asl_check::{Finding, Located, Verdict, find_all};
+use asl_causes::{Known, findings_text_alone};
+use asl_check::{Finding, Verdict};
 use asl_infer::infer_leniently;
-use asl_records::NumberedCertificate;
 use asl_tool::{RunFault, Subject, Verified, read_subject, verify_inferred};
 use asl_tree::OutOfMemory;
 use std::alloc::Global;
@@ -154,37 +150,26 @@ struct Texts<'t> {
     max_rounds: u32,
 }
 
-/// What is known of a machine by a certificate that is inferred leniently.
-#[derive(Drop)]
-struct Known {
-    certificate: NumberedCertificate,
-    flows: Flows,
-    findings: Vec<Located>,
-}
-
-impl Known {
-    /// What is known of a machine under declared shapes; nothing where the shapes don't settle.
-    fn find(alloc: Global, subject: &Subject, max_rounds: u32) -> Result<Option<Known>, OutOfMemory>
-        ensures settled { IfOk result (λ found. (m : Scope) → Shows subject.now.machine m
-            → IfSome found (λ _.
-            SettlesLeniently (table_of m) (declared_view subject.now.declared) max_rounds)) }
-        ensures unsettled { IfOk result (λ found. (m : Scope) → Shows subject.now.machine m
-            → IfNone found
-            (NeverSettlesLeniently (table_of m) (declared_view subject.now.declared) max_rounds)) }
-    {
-        let machine = &subject.machine;
-        let declared = &subject.declared;
-        let Some(mut certificate) = infer_leniently(alloc, machine, declared, max_rounds)? else {
-            return Ok(None);
-        };
-        let findings = find_all(alloc, machine, declared, &mut certificate)?;
-        let flows = Flows::find(alloc, subject, &mut certificate)?;
-        Ok(Some(Known {
-            certificate,
-            flows,
-            findings,
-        }))
-    }
+/// What is known of a machine under declared shapes by the certificate that is inferred leniently; nothing where its rounds
+/// don't settle.
+fn find_known<'s>(
+    alloc: Global,
+    subject: &'s Subject,
+    max_rounds: u32,
+) -> Result<Option<Known<'s>>, OutOfMemory>
+    ensures settled { IfOk result (λ found. (m : Scope) → Shows subject.now.machine m
+        → IfSome found (λ _.
+        SettlesLeniently (table_of m) (declared_view subject.now.declared) max_rounds)) }
+    ensures unsettled { IfOk result (λ found. (m : Scope) → Shows subject.now.machine m
+        → IfNone found
+        (NeverSettlesLeniently (table_of m) (declared_view subject.now.declared) max_rounds)) }
+{
+    let machine = &subject.machine;
+    let declared = &subject.declared;
+    let Some(certificate) = infer_leniently(alloc, machine, declared, max_rounds)? else {
+        return Ok(None);
+    };
+    Ok(Some(Known::find(alloc, machine, declared, certificate)?))
 }
 
 impl Texts<'_> {
@@ -207,9 +192,9 @@ impl Texts<'_> {
     {
         // The texts were read before, so that memory alone can refuse them now.
         let subject = read_subject(alloc, self.definition, self.declared).map_err(|_| OutOfMemory)?;
-        let text = match Known::find(alloc, &subject, self.max_rounds)? {
-            Some(known) => explain_known(alloc, &subject, known, findings)?,
-            None => lines_of(alloc, findings)?,
+        let text = match find_known(alloc, &subject, self.max_rounds)? {
+            Some(known) if known.has_findings() => known.findings_text(alloc)?,
+            _ => findings_text_alone(alloc, findings)?,
         };
         Ok(Explained::Findings(text))
     }
@@ -228,62 +213,9 @@ fn explain_state(
     let Some(state) = subject.machine.state_named(name) else {
         return Ok(Explained::NoSuchState);
     };
-    let Some(mut known) = Known::find(alloc, subject, max_rounds)? else {
+    let Some(known) = find_known(alloc, subject, max_rounds)? else {
         return Ok(Explained::NotSettled);
     };
-    let explainer = Explainer {
-        alloc,
-        machine: &subject.machine,
-        declared: &subject.declared,
-        states: &known.certificate.states,
-        flows: &known.flows,
-    };
-    let shapes = &mut known.certificate.shapes;
-    let text = explainer.about_state(shapes, &known.findings, state)?;
+    let text = known.state_text(alloc, state)?;
     Ok(Explained::State(text))
-}
-
-/// Explains all that is known, or these findings where that is nothing.
-fn explain_known(
-    alloc: Global,
-    subject: &Subject,
-    mut known: Known,
-    findings: Vec<Finding>,
-) -> Result<String, OutOfMemory> {
-    if known.findings.is_empty() {
-        return lines_of(alloc, findings);
-    }
-    let explainer = Explainer {
-        alloc,
-        machine: &subject.machine,
-        declared: &subject.declared,
-        states: &known.certificate.states,
-        flows: &known.flows,
-    };
-    let mut text = String::new(alloc);
-    let mut walks = Walks::new(alloc);
-    for (number, located) in known.findings.iter().enumerate() {
-        if is_repeated(&known.findings, number) {
-            continue;
-        }
-        if !text.is_empty() {
-            text.push_str("\n")?;
-        }
-        let shapes = &mut known.certificate.shapes;
-        explainer.push_finding(shapes, &mut walks, &mut text, located)?;
-    }
-    Ok(text)
-}
-
-/// These findings, of which nothing else is known.
-fn lines_of(alloc: Global, findings: Vec<Finding>) -> Result<String, OutOfMemory> {
-    let mut text = String::new(alloc);
-    for finding in findings {
-        let located = Located {
-            finding,
-            path: None,
-        };
-        push_alone(alloc, &mut text, &located)?;
-    }
-    Ok(text)
 }

@@ -5,23 +5,6 @@
 //! [`asl_tool::verify_inferred`] says yes.
 #![tactic(auto)]
 
-mod by_state;
-mod calls;
-mod causes;
-mod differences;
 mod explaining;
-mod flows;
-mod heads;
-mod helping;
-mod lookups;
-mod misfits;
-mod origins;
-mod results;
-mod state_text;
-mod stops;
-mod telling;
-mod there;
-mod walking;
-mod words;
 
 pub use explaining::{Explained, explain_texts};

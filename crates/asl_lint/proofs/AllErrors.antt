@@ -8,7 +8,7 @@ use Rattle.asl_model.specs.Names.{Bytes}
 use Rattle.asl_model.specs.StandsFor.{Complaint, complaints}
 use Rattle.asl_lint.specs.Tells as tells
 use Rattle.asl_lint.specs.Tells.{AreBroken, TellsInstead, TellsOfBoth, TellsOfCertificate, TellsOfDeclared, TellsOfDefinition, TellsOfMachine, TellsOfOne, TellsOfTexts, accepted, rejected, leniently, unsettled_leniently, unbroken, inferred, stopped, unsettled, both_read, definition_reads, declared_reads, neither_reads, alone_reads, alone_refused}
-use Rattle.asl_lint.specs.Told.{Told, errors_in, is_error, of_complaint, of_finding}
+use Rattle.asl_problems.specs.Told.{Told, errors_in, is_error, of_complaint, of_finding}
 
 findings_kept : (fs : List Finding) → errors_in (map of_finding fs) ≡ map of_finding fs
 findings_kept [] = refl

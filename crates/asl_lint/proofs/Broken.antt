@@ -9,8 +9,8 @@ use Rattle.asl_model.specs.Verdict.{IsRight, Rejected}
 use Rattle.asl_check.specs.Told.{AreFirst, first_of, listed}
 use Rattle.asl_infer.specs.Lenient.{IsInferredLeniently, NeverSettlesLeniently}
 use Rattle.asl_lint.specs.Tells.{AreBroken, TellsInstead, TellsOfCertificate, leniently, rejected, unbroken, unsettled_leniently}
-use Rattle.asl_lint.specs.Told.{Told, of_finding, told_by}
-use Rattle.asl_lint.specs.declared.problems.Problem.{Problem}
+use Rattle.asl_problems.specs.Told.{Told, of_finding, told_by}
+use Rattle.asl_problems.specs.declared.problems.Problem.{Problem}
 
 -- rules are listed where the first of a name is told
 some_listed : (all told : List Finding) → AreFirst all told → told ≢ [] → all ≡ [] → ⊥

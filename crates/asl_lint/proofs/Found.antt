@@ -9,7 +9,7 @@ use Rattle.asl_records.specs.View.{declared_view}
 use Rattle.asl_records.specs.declared.records.Declared.{Declared}
 use Rattle.asl_tool.specs.Verifying.{ReadsInto}
 use Rattle.asl_lint.specs.Tells.{TellsOfBoth, TellsOfDeclared, TellsOfDefinition, TellsOfMachine, both_read, declared_reads, definition_reads, neither_reads}
-use Rattle.asl_lint.specs.Told.{Told}
+use Rattle.asl_problems.specs.Told.{Told}
 
 module _ (rounds : ℕ) (definition declared : Bytes) where
   pub read_both : (machine : Machine) (shapes : Declared) (told : List Told) → ReadsInto definition machine → ReadsAsDeclared declared (declared_view shapes) → ((m : Scope) → Shows machine m → TellsOfMachine rounds m (declared_view shapes) told) → TellsOfBoth rounds definition declared told

@@ -2,8 +2,6 @@ pub mod AllErrors
 pub mod Broken
 pub mod Errors
 pub mod Found
-pub mod Lists
 pub mod Outcomes
 pub mod Promises
 pub mod Refusals
-pub mod Warned

@@ -19,7 +19,7 @@ use Rattle.asl_lint.specs.Linted as faulty
 use Rattle.asl_lint.specs.Linted.{IsFaulty}
 use Rattle.asl_lint.specs.Tells as tells
 use Rattle.asl_lint.specs.Tells.{AreBroken, TellsOfBoth, TellsOfDeclared, TellsOfDefinition, TellsOfMachine, TellsOfOne, TellsOfCertificate, TellsInstead, accepted, rejected, leniently, unsettled_leniently, unbroken, inferred, stopped, unsettled, both_read, definition_reads, declared_reads, neither_reads, alone_reads, alone_refused}
-use Rattle.asl_lint.specs.Told.{Told, of_complaint, of_finding}
+use Rattle.asl_problems.specs.Told.{Told, of_complaint, of_finding}
 use Rattle.asl_draft_laws.proofs.OneAnswer.{inferred_once, nothing_told, settles}
 
 -- the first one is contained

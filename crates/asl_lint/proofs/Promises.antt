@@ -8,8 +8,8 @@ use Rattle.asl_tool.specs.VerifiedInference.{IsVerdictOnInferred, NeverFaultsAsI
 use Rattle.asl_tool.specs.Verifying.{MachineReads}
 use Rattle.asl_diagnostics.specs.declared.Diagnostic.{Diagnostic}
 use Rattle.asl_lint.specs.Linted.{IsFaulty, Tells, WhereDeclared, WhereUndeclared, text_of}
-use Rattle.asl_lint.specs.Told.{Told, errors_in, has_error, is_error, told_of}
-use Rattle.asl_lint.specs.declared.linting.File.{File}
+use Rattle.asl_problems.specs.Told.{Told, errors_in, has_error, is_error, told_of}
+use Rattle.asl_problems.specs.declared.files.File.{File}
 use Rattle.asl_lint.proofs.Errors.{any_in_order, none_kept, none_met, some_kept}
 use Rattle.asl_lint.proofs.Outcomes.{none_where_yes, one_text, other_where_some, yes_where_none}
 

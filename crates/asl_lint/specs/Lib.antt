@@ -1,4 +1,3 @@
 pub mod Linted
 pub mod Reading
 pub mod Tells
-pub mod Told

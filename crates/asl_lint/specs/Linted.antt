@@ -10,8 +10,8 @@ use Rattle.asl_tool.specs.Inferred.{AreFewRounds, IsFindingOn}
 use Rattle.asl_tool.specs.VerifiedInference.{IsVerdictOnInferred}
 use Rattle.asl_diagnostics.specs.declared.Diagnostic.{Diagnostic}
 use Rattle.asl_lint.specs.Tells.{TellsOfTexts}
-use Rattle.asl_lint.specs.Told.{Told, errors_in, told_of}
-use Rattle.asl_lint.specs.declared.linting.File.{File}
+use Rattle.asl_problems.specs.Told.{Told, errors_in, told_of}
+use Rattle.asl_problems.specs.declared.files.File.{File}
 
 -- the bytes of a file, where it is given
 abbrev pub text_of : Option File → Option Bytes

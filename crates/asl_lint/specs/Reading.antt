@@ -1,5 +1,5 @@
 -- What the two texts read as. No public clause cites this module.
-use Rattle.std.specs.Prelude.{◌≡◌, List, map, Option, Some, None, option_map}
+use Rattle.std.specs.Prelude.{map, Option, Some, None}
 use Rattle.serde_json.specs.View.{view}
 use Rattle.serde_json.specs.declared.value.Value.{Value}
 use Rattle.asl_model.specs.Json.{ReadsAsValue}
@@ -7,10 +7,8 @@ use Rattle.asl_model.specs.Names.{Bytes}
 use Rattle.asl_model.specs.Texts.{IsNoJson, ReadsAsDeclared}
 use Rattle.asl_records.specs.View.{declared_view}
 use Rattle.asl_tool.specs.Verifying.{ReadsInto}
-use Rattle.asl_machine.specs.View.{refusal_view}
-use Rattle.asl_machine.specs.declared.refusals.DefRefusal.{DefRefusal}
 use Rattle.asl_lint.specs.Tells.{TellsOfDeclared, TellsOfDefinition}
-use Rattle.asl_lint.specs.Told.{Told, of_complaint, told_by}
+use Rattle.asl_problems.specs.Told.{told_by}
 use Rattle.asl_lint.specs.declared.reading.Declaration.{Declaration}
 use Rattle.asl_lint.specs.declared.reading.Declaration.TheVariants as declaration
 use Rattle.asl_lint.specs.declared.reading.Definition.{Definition}
@@ -30,7 +28,3 @@ IsDefinition text (definition.Refused problems) = TellsOfDefinition text (map to
 abbrev pub IsDeclaration : Bytes → Declaration → Type 0
 IsDeclaration text (declaration.Declared declared) = ReadsAsDeclared text (declared_view declared)
 IsDeclaration text (declaration.Refused problem) = TellsOfDeclared text (told_by problem)
-
--- what is told of each refusal; of one for want of memory, nothing
-abbrev pub refusals_told : List DefRefusal → List (Option Told)
-refusals_told refusals = map (λ refusal. option_map of_complaint (refusal_view refusal)) refusals

@@ -15,7 +15,7 @@ use Rattle.asl_draft_laws.specs.Drafts.{IsInferred, IsTold, NeverSettles}
 use Rattle.asl_check.specs.Told.{listed}
 use Rattle.asl_infer.specs.Inferring.{IsOfMachine, certified_shapes}
 use Rattle.asl_infer.specs.Lenient.{IsInferredLeniently, NeverSettlesLeniently}
-use Rattle.asl_lint.specs.Told.{Told, not_json, not_settled, not_whole, of_complaint, of_finding, of_record}
+use Rattle.asl_problems.specs.Told.{Told, not_json, not_settled, not_whole, of_complaint, of_finding, of_record}
 
 -- of a text that reads as no machine: it is no JSON, or each complaint of its value as a definition
 pub data TellsOfDefinition (text : Bytes) : List Told → Type 0 where

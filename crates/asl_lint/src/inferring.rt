@@ -7,12 +7,12 @@ ghost use Rattle.asl_records.specs.View.{declared_view};
 ghost use Rattle.asl_check.specs.Told.{listed};
 ghost use Rattle.asl_check.specs.View.{finding_view};
 ghost use Rattle.asl_lint.specs.Tells.{TellsInstead, TellsOfCertificate, TellsOfMachine};
-ghost use Rattle.asl_lint.specs.Told.{of_finding, told_by};
+ghost use Rattle.asl_problems.specs.Told.{of_finding, told_by};
 
-use crate::problems::Problem;
-use asl_check::{Finding, Located, Verdict, check_numbered, find_all};
+use asl_check::{Finding, Verdict, check_numbered, find_all};
 use asl_infer::{InferRefusal, infer_leniently, infer_numbered};
 use asl_machine::Machine;
+use asl_problems::{Problem, problems_of_findings};
 use asl_records::{Declared, NumberedCertificate};
 use asl_tree::OutOfMemory;
 use std::alloc::Global;
@@ -147,19 +147,6 @@ fn broken_rules(
     ensures within { AreWithin certificate.new }
 {
     let findings = find_all(alloc, machine, declared, certificate)?;
-    let problems = problems_of(alloc, findings)?;
-    Ok(problems)
-}
-
-/// The findings as problems.
-fn problems_of(alloc: Global, findings: Vec<Located>) -> Result<Vec<Problem>, OutOfMemory>
-    ensures { IfOk result (λ problems. map told_by problems.items
-        ≡ map (λ f. of_finding (finding_view f.finding)) findings.items) }
-{
-    let mut problems = Vec::new(alloc);
-    for located in findings {
-        let problem = Problem::finding(located.finding, located.path);
-        problems.push(problem)?;
-    }
+    let problems = problems_of_findings(alloc, findings)?;
     Ok(problems)
 }

@@ -4,21 +4,10 @@
 //! place. Where declared shapes are given it tells no error exactly where [`asl_tool::verify_inferred`] says yes.
 #![tactic(auto)]
 
-mod breaks;
-mod complaints;
-mod declared_places;
-mod definition_places;
-mod index;
 mod inferring;
 mod linting;
-mod messages;
-mod nested;
-mod problems;
 mod reading;
-mod sources;
-mod telling;
-mod templates;
 mod texts;
-mod warnings;
 
-pub use linting::{File, Linted, lint};
+pub use asl_problems::File;
+pub use linting::{Linted, lint};

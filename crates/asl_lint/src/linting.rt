@@ -5,22 +5,15 @@ ghost use Rattle.asl_model.specs.Verdict.{Accepted};
 ghost use Rattle.asl_tool.specs.VerifiedInference.{IsVerdictOnInferred, NeverFaultsAsInferred};
 ghost use Rattle.asl_tool.specs.Verifying.{MachineReads};
 ghost use Rattle.asl_lint.specs.Linted.{IsFaulty, Tells, WhereDeclared, WhereUndeclared, tells_no_json, text_of};
-ghost use Rattle.asl_lint.specs.Told.{has_error};
+ghost use Rattle.asl_problems.specs.Told.{has_error};
 
-use crate::telling::diagnostics_of;
 use crate::texts::problems_of_texts;
 use asl_diagnostics::{Diagnostic, sort};
 use asl_model::run_laws::{closed_runs_never_fault, closed_runs_tell_no_fault};
 use asl_model::shape_laws::no_broken_rule_means_closed;
+use asl_problems::{File, diagnostics_of};
 use asl_tree::OutOfMemory;
 use std::alloc::Global;
-
-/// A file's text, with the path that is told.
-#[derive(Clone, Copy, Drop)]
-pub struct File<'a> {
-    pub path: &'a str,
-    pub text: &'a [u8],
-}
 
 /// What is told of a definition.
 #[derive(Drop)]

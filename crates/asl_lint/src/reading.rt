@@ -8,11 +8,10 @@ ghost use Rattle.asl_model.specs.Records.{HasDeclaredFault};
 ghost use Rattle.asl_model.specs.Texts.{IsNoJson};
 ghost use Rattle.asl_records.specs.Refusal.{Tells};
 ghost use Rattle.asl_lint.specs.Reading.{IsDeclaration, IsDefinition, IsValueOf};
-ghost use Rattle.asl_lint.specs.Told.{told_by};
+ghost use Rattle.asl_problems.specs.Told.{told_by};
 
-use crate::complaints::problems_of_value;
-use crate::problems::{Problem, Which, added};
 use asl_machine::Machine;
+use asl_problems::{Problem, Which, problems_of_value};
 use asl_records::{Declared, ReadFault, RecordRefusal, read_declared};
 use asl_tree::{OutOfMemory, TreeRefusal, read_value};
 use serde_json::Value;
@@ -136,4 +135,14 @@ fn json_value(alloc: Global, text: &[u8]) -> Result<Option<Value>, OutOfMemory>
         Err(TreeRefusal::OutOfMemory) => Err(OutOfMemory),
         Err(TreeRefusal::NotJson | TreeRefusal::NotWhole) => Ok(None),
     }
+}
+
+/// The problems with one more behind them.
+pub(crate) fn added(problems: Vec<Problem>, problem: Problem) -> Result<Vec<Problem>, OutOfMemory>
+    ensures { IfOk result (λ all. map told_by all.items
+        ≡ map told_by problems.items ++ told_by problem ∷ []) }
+{
+    let mut all = problems;
+    all.push(problem)?;
+    Ok(all)
 }

@@ -7,13 +7,12 @@ ghost use Rattle.asl_records.specs.View.{declared_view};
 ghost use Rattle.asl_tool.specs.Verifying.{ReadsInto};
 ghost use Rattle.asl_lint.specs.Reading.{IsDeclaration};
 ghost use Rattle.asl_lint.specs.Tells.{TellsOfBoth, TellsOfDefinition, TellsOfMachine, TellsOfOne, TellsOfTexts};
-ghost use Rattle.asl_lint.specs.Told.{errors_of, told_by};
+ghost use Rattle.asl_problems.specs.Told.{errors_of, told_by};
 
 use crate::inferring::judge;
-use crate::problems::{Problem, added};
-use crate::reading::{Declaration, Definition, read_declaration, read_definition};
-use crate::warnings::add_warnings;
+use crate::reading::{Declaration, Definition, added, read_declaration, read_definition};
 use asl_machine::Machine;
+use asl_problems::{Problem, add_warnings};
 use asl_records::{Declared, NumberedCertificate};
 use asl_tree::OutOfMemory;
 use std::alloc::Global;

@@ -7,7 +7,7 @@ use Rattle.asl_records.specs.View.{declared_view}
 use Rattle.asl_check.specs.Told.{TellsFirst, listed}
 use Rattle.asl_check.specs.View.{findings_view, verdict_view}
 use Rattle.asl_lint.specs.Tells.{TellsOfCertificate, accepted}
-use Rattle.asl_lint.specs.Told.{told_by}
+use Rattle.asl_problems.specs.Told.{told_by}
 use Rattle.asl_lint.proofs.Broken.{rejected_by}
 use Rattle.asl_lint.proofs.inferring.checked_rules.Goals as goal
 

@@ -6,7 +6,7 @@ use Rattle.asl_records.specs.Numbered.{numbered_view}
 use Rattle.asl_records.specs.View.{declared_view}
 use Rattle.asl_check.specs.View.{finding_view}
 use Rattle.asl_infer.specs.Lenient.{IsInferredLeniently, NeverSettlesLeniently}
-use Rattle.asl_lint.specs.Told.{told_by}
+use Rattle.asl_problems.specs.Told.{told_by}
 use Rattle.asl_lint.proofs.Broken.{leniently_by, unbroken_by, unsettled_by}
 use Rattle.asl_lint.proofs.Refusals.{none_there, some_there}
 use Rattle.asl_lint.proofs.inferring.judge_leniently.Goals as goal

@@ -2,7 +2,7 @@ use Rattle.std.proofs.Common.{map, subst}
 use Rattle.std.specs.List.Sorted.{IsPermutation}
 use Rattle.std.proofs.lemmas.List.Sorted.{IsPermutation-map}
 use Rattle.asl_lint.specs.Tells.{TellsOfTexts}
-use Rattle.asl_lint.specs.Told.{errors_of, told_by, told_of}
+use Rattle.asl_problems.specs.Told.{errors_of, told_by, told_of}
 use Rattle.asl_lint.proofs.linting.sorted_diagnostics.Goals as goal
 
 pub returns : goal.returns

@@ -1,6 +1,6 @@
 use Rattle.std.proofs.Common.{[], ◌∷◌, ◌++◌, map, sym, ap, ◌∙◌, subst}
 use Rattle.asl_lint.specs.Tells.{TellsOfDefinition, definition_no_json}
-use Rattle.asl_lint.specs.Told.{told_by}
+use Rattle.asl_problems.specs.Told.{told_by}
 use Rattle.asl_lint.proofs.reading.no_definition.Goals as goal
 
 pub returns : goal.returns

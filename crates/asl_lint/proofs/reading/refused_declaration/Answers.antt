@@ -1,5 +1,5 @@
 use Rattle.asl_records.specs.View.{complaint_view}
-use Rattle.asl_lint.specs.Told.{told_by}
+use Rattle.asl_problems.specs.Told.{told_by}
 use Rattle.asl_lint.proofs.Refusals.{record_told}
 use Rattle.asl_lint.proofs.reading.refused_declaration.Goals as goal
 

@@ -1,7 +1,7 @@
 use Rattle.std.proofs.Common.{map, sym, subst}
 use Rattle.asl_lint.specs.Reading.{IsDeclaration}
 use Rattle.asl_lint.specs.Tells.{TellsOfBoth, declared_reads}
-use Rattle.asl_lint.specs.Told.{told_by}
+use Rattle.asl_problems.specs.Told.{told_by}
 use Rattle.asl_lint.proofs.Found.{read_none}
 use Rattle.asl_lint.proofs.texts.find_behind.Goals as goal
 

@@ -1,7 +1,7 @@
 use Rattle.std.proofs.Common.{[], ◌∷◌, ◌++◌, map, ap, ◌∙◌, subst}
 use Rattle.std.proofs.lemmas.Result.{IfOk-weaker}
 use Rattle.asl_lint.specs.Reading.{IsDeclaration}
-use Rattle.asl_lint.specs.Told.{told_by}
+use Rattle.asl_problems.specs.Told.{told_by}
 use Rattle.asl_lint.proofs.Found.{read_both, read_one}
 use Rattle.asl_lint.proofs.texts.find_in_machine.Goals as goal
 

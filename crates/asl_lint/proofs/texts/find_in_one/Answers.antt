@@ -1,7 +1,7 @@
 use Rattle.std.proofs.Common.{sym, map, subst}
 use Rattle.asl_lint.specs.Reading.{IsDefinition}
 use Rattle.asl_lint.specs.Tells.{TellsOfOne, alone_reads, alone_refused}
-use Rattle.asl_lint.specs.Told.{told_by}
+use Rattle.asl_problems.specs.Told.{told_by}
 use Rattle.asl_lint.proofs.texts.find_in_one.Goals as goal
 
 pub returns-in-Machine : goal.returns-in-Machine

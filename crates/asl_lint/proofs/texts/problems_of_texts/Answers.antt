@@ -1,6 +1,6 @@
 use Rattle.std.proofs.Common.{Option, option_map, map, sym, ◌∙◌, subst}
 use Rattle.asl_lint.specs.Tells.{TellsOfTexts}
-use Rattle.asl_lint.specs.Told.{told_by}
+use Rattle.asl_problems.specs.Told.{told_by}
 use Rattle.asl_lint.proofs.AllErrors.{all_errors}
 use Rattle.asl_lint.proofs.texts.problems_of_texts.Goals as goal
 

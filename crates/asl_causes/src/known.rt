@@ -1,0 +1,115 @@
+//! What is known of a machine by a certificate, and what is told of it.
+
+ghost use Rattle.std.specs.Prelude.{◌≡◌, ◌≢◌, ◌↔◌, [], IfOk, IsTrue};
+ghost use Rattle.asl_states.specs.Table.{table_view};
+ghost use Rattle.asl_check.specs.Told.{listed};
+ghost use Rattle.asl_records.specs.Numbered.{AreWithin, numbered_view};
+ghost use Rattle.asl_records.specs.View.{declared_view};
+ghost use Rattle.asl_causes.specs.Known.{broken_rules};
+
+use crate::flows::{Explainer, Flows};
+use crate::heads::is_repeated;
+use crate::telling::push_alone;
+use crate::walking::Walks;
+use asl_check::{Finding, Located, find_all};
+use asl_machine::Machine;
+use asl_records::{Declared, NumberedCertificate};
+use asl_tree::OutOfMemory;
+use std::alloc::Global;
+
+/// What is known of a machine under declared shapes by a certificate: each rule that it breaks, and how data goes through the
+/// machine under it.
+#[derive(Drop)]
+pub struct Known<'m> {
+    machine: &'m Machine,
+    declared: &'m Declared,
+    certificate: NumberedCertificate,
+    flows: Flows,
+    findings: Vec<Located>,
+}
+
+impl<'m> Known<'m> {
+    /// What is known of a machine under declared shapes by a certificate. Refuses only where an allocation was refused.
+    pub fn find(
+        alloc: Global,
+        machine: &'m Machine,
+        declared: &'m Declared,
+        mut certificate: NumberedCertificate,
+    ) -> Result<Known<'m>, OutOfMemory>
+        requires within { AreWithin certificate }
+        ensures broken { IfOk result (λ known. broken_rules known
+            ≡ listed (table_view machine.now) (declared_view declared.now)
+            (numbered_view certificate)) }
+    {
+        let findings = find_all(alloc, machine, declared, &mut certificate)?;
+        let flows = Flows::find(alloc, machine, declared, &mut certificate)?;
+        Ok(Known {
+            machine,
+            declared,
+            certificate,
+            flows,
+            findings,
+        })
+    }
+
+    /// Whether the certificate breaks a rule.
+    pub fn has_findings(&self) -> bool
+        ensures { IsTrue result ↔ broken_rules self.now ≢ [] }
+    {
+        !self.findings.is_empty()
+    }
+
+    /// Tells each rule that the certificate breaks in some lines, with an empty line between two of them: the line of the
+    /// finding, what is known of the data with which it arises, the shortest way by which such data comes there, other
+    /// origins from which it doesn't arise, an example, and what usually helps. What would be told in the same words twice
+    /// is told once. Refuses only where an allocation was refused.
+    pub fn findings_text(mut self, alloc: Global) -> Result<String, OutOfMemory> {
+        let explainer = Explainer {
+            alloc,
+            machine: self.machine,
+            declared: self.declared,
+            states: &self.certificate.states,
+            flows: &self.flows,
+        };
+        let mut text = String::new(alloc);
+        let mut walks = Walks::new(alloc);
+        for (number, located) in self.findings.iter().enumerate() {
+            if is_repeated(&self.findings, number) {
+                continue;
+            }
+            if !text.is_empty() {
+                text.push_str("\n")?;
+            }
+            let shapes = &mut self.certificate.shapes;
+            explainer.push_finding(shapes, &mut walks, &mut text, located)?;
+        }
+        Ok(text)
+    }
+
+    /// Tells what comes to the state of that number, its shapes, and its findings, in some lines. Refuses only where an
+    /// allocation was refused.
+    pub fn state_text(mut self, alloc: Global, state: usize) -> Result<String, OutOfMemory> {
+        let explainer = Explainer {
+            alloc,
+            machine: self.machine,
+            declared: self.declared,
+            states: &self.certificate.states,
+            flows: &self.flows,
+        };
+        explainer.about_state(&mut self.certificate.shapes, &self.findings, state)
+    }
+}
+
+/// Tells findings of which nothing else is known, each with its example and what generally helps. Refuses only where an
+/// allocation was refused.
+pub fn findings_text_alone(alloc: Global, findings: Vec<Finding>) -> Result<String, OutOfMemory> {
+    let mut text = String::new(alloc);
+    for finding in findings {
+        let located = Located {
+            finding,
+            path: None,
+        };
+        push_alone(alloc, &mut text, &located)?;
+    }
+    Ok(text)
+}

@@ -1,0 +1,28 @@
+//! What is known of a machine by a certificate, told for people: why rules are broken, by which ways data comes there, and
+//! what usually helps; or what is known of one state.
+//!
+//! [`Known::find`] takes a machine under declared shapes and a certificate, and finds the broken rules and the ways of data.
+//! [`Known::findings_text`] tells every broken rule, [`Known::state_text`] one state. [`findings_text_alone`] tells findings
+//! of which nothing else is known.
+#![tactic(auto)]
+
+mod by_state;
+mod calls;
+mod causes;
+mod differences;
+mod flows;
+mod heads;
+mod helping;
+mod known;
+mod lookups;
+mod misfits;
+mod origins;
+mod results;
+mod state_text;
+mod stops;
+mod telling;
+mod there;
+mod walking;
+mod words;
+
+pub use known::{Known, findings_text_alone};

@@ -1,9 +1,0 @@
-use Rattle.std.proofs.Common.{◌≡◌, ◌++◌, map, Some}
-use Rattle.asl_lint.specs.Reading.{refusals_told}
-use Rattle.asl_lint.specs.Told.{told_by}
-use Rattle.asl_lint.proofs.complaints.problems_of.Given as goal
-
--- what is told so far, and what the refusals left tell, is what all refusals tell
-abbrev pub invariant-loop-refusal : goal.invariant-loop-refusal
-invariant-loop-refusal l =
-    refusals_told l.fn.refusals.items ≡ map (λ problem. Some (told_by problem)) l.problems.items ++ refusals_told l.refusal-iterator.rest.items

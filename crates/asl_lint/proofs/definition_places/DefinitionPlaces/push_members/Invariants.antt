@@ -1,5 +1,0 @@
-use Rattle.std.proofs.Common.{◌-◌, length}
-use Rattle.asl_lint.proofs.definition_places.DefinitionPlaces.push_members.Given as goal
-
-abbrev pub decreases-loop-member : goal.decreases-loop-member
-decreases-loop-member l = length l.members.0 - l.members.1

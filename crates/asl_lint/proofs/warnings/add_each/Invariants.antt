@@ -1,7 +1,0 @@
-use Rattle.std.proofs.Common.{◌≡◌}
-use Rattle.asl_lint.specs.Told.{errors_of}
-use Rattle.asl_lint.proofs.warnings.add_each.Given as goal
-
--- the errors are as before
-abbrev pub invariant-loop-notice : goal.invariant-loop-notice
-invariant-loop-notice l = errors_of l.problems.items ≡ errors_of l.fn.problems.items
