@@ -8,12 +8,11 @@ ghost use Rattle.asl_model.specs.Numbering.{table_of};
 ghost use Rattle.asl_model.specs.Verdict.{Accepted};
 ghost use Rattle.asl_infer.specs.Lenient.{NeverSettlesLeniently};
 ghost use Rattle.asl_records.specs.View.{declared_view};
-ghost use Rattle.asl_tool.specs.Inferred.{InferFaultStands};
-ghost use Rattle.asl_tool.specs.Subjects.{Describes};
+ghost use Rattle.asl_texts.specs.Subjects.{Describes, SubjectFaultStands};
 ghost use Rattle.asl_tool.specs.VerifiedInference.{IsVerdictOnInferred};
 ghost use Rattle.asl_check.specs.declared.verdicts.Verdict.TheVariants as checked;
 ghost use Rattle.asl_tool.specs.declared.inferring.Verified.TheVariants as outcomes;
-ghost use Rattle.asl_tool.specs.declared.refusals.RunFault.TheVariants as faults;
+ghost use Rattle.asl_texts.specs.declared.refusals.RunFault.TheVariants as faults;
 ghost use Rattle.asl_explain.specs.Answers.{ExplainsFindings, ExplainsState};
 ghost use Rattle.asl_explain.specs.Outcomes.{Answers, AreFindings, SettlesLeniently};
 ghost use Rattle.asl_explain.specs.declared.explaining.Explained.TheVariants as answers;
@@ -65,7 +64,7 @@ pub fn explain_texts(
         → IfOk result (ExplainsFindings max_rounds definition.now declared.now) }
     ensures state { IfSome state.entry (λ name.
         IfOk result (ExplainsState max_rounds definition.now declared.now name.now)) }
-    ensures refused { IfErr result (InferFaultStands definition.now declared.now) }
+    ensures refused { IfErr result (SubjectFaultStands definition.now declared.now) }
 {
     match state {
         Some(name) => explain_named(alloc, definition, declared, name, max_rounds),
@@ -83,7 +82,7 @@ fn explain_named(
 ) -> Result<Explained, RunFault>
     ensures state { IfOk result
         (ExplainsState max_rounds definition.now declared.now name.now) }
-    ensures refused { IfErr result (InferFaultStands definition.now declared.now) }
+    ensures refused { IfErr result (SubjectFaultStands definition.now declared.now) }
 {
     let subject = read_subject(alloc, definition, declared)?;
     told_or_fault(explain_state(alloc, &subject, name, max_rounds))
@@ -99,7 +98,7 @@ fn explain_all(
     ensures exactly { IfOk result (λ told. (told ≡ answers.Nothing)
         ↔ IsVerdictOnInferred max_rounds definition.now declared.now Accepted) }
     ensures findings { IfOk result (ExplainsFindings max_rounds definition.now declared.now) }
-    ensures refused { IfErr result (InferFaultStands definition.now declared.now) }
+    ensures refused { IfErr result (SubjectFaultStands definition.now declared.now) }
 {
     let verified = verify_inferred(alloc, definition, declared, max_rounds)?;
     let texts = Texts {

@@ -1,6 +1,6 @@
 //! How the program ends: the line on standard error and the exit status.
 
-use asl_tool::{Closing, RunFault, closing};
+use asl_texts::{Closing, RunFault, closing};
 use asl_tree::OutOfMemory;
 
 /// Writes the closing's line to standard error and gives its exit status.

@@ -1,7 +1,7 @@
 //! The texts in files.
 
 use crate::endings::finish;
-use asl_tool::{Closing, FromRead, RunFault, read_text};
+use asl_texts::{Closing, FromRead, RunFault, read_text};
 use asl_tree::{OutOfMemory, in_line};
 use std::alloc::Global;
 use std::fs;

@@ -1,7 +1,7 @@
 //! What goes to standard output.
 
 use crate::endings::or_out_of_memory;
-use asl_tool::{RunFault, Verdict, verdict_text};
+use asl_texts::{RunFault, Verdict, verdict_text};
 use asl_tree::OutOfMemory;
 use std::io::{self, Write};
 

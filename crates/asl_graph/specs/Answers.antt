@@ -6,7 +6,7 @@ use Rattle.asl_model.specs.Names.{Bytes}
 use Rattle.asl_model.specs.Numbering.{Table, table_of}
 use Rattle.asl_model.specs.Texts.{ReadsAsDeclared, ReadsAsMachine}
 use Rattle.asl_infer.specs.Lenient.{IsInferredLeniently, NeverSettlesLeniently}
-use Rattle.asl_tool.specs.Verifying.{MachineReads}
+use Rattle.asl_texts.specs.Verifying.{MachineReads}
 use Rattle.asl_graph.specs.declared.graphing.Drawn.{Drawn}
 use Rattle.asl_graph.specs.declared.graphing.Drawn.TheVariants.{Graph, NotSettled}
 

@@ -2,9 +2,8 @@
 
 ghost use Rattle.std.specs.Prelude.{◌≡◌, IfErr, IfOk, IfSome, None, Ok};
 ghost use Rattle.asl_model.specs.Names.{Bytes};
-ghost use Rattle.asl_tool.specs.Inferred.{InferFaultStands};
-ghost use Rattle.asl_tool.specs.Subjects.{DefinitionFaultStands, Describes};
-ghost use Rattle.asl_tool.specs.declared.refusals.RunFault.TheVariants as faults;
+ghost use Rattle.asl_texts.specs.Subjects.{DefinitionFaultStands, Describes, SubjectFaultStands};
+ghost use Rattle.asl_texts.specs.declared.refusals.RunFault.TheVariants as faults;
 ghost use Rattle.asl_graph.specs.Answers.{Draws, DrawsAlone};
 
 use crate::drawing::Drawer;
@@ -13,7 +12,7 @@ use crate::order::written_order;
 use crate::picture::Format;
 use crate::scopes::Scopes;
 use asl_states::Machine;
-use asl_tool::{RunFault, Subject, read_definition, read_subject};
+use asl_texts::{RunFault, Subject, read_definition, read_subject};
 use asl_tree::OutOfMemory;
 use std::alloc::Global;
 
@@ -46,7 +45,7 @@ pub fn graph_texts<'t>(
         IfOk result (Draws max_rounds definition.now text.now)) }
     ensures drawn_alone { declared.entry ≡ None → IfOk result (DrawsAlone definition.now) }
     ensures refused { IfSome declared.entry (λ text.
-        IfErr result (InferFaultStands definition.now text.now)) }
+        IfErr result (SubjectFaultStands definition.now text.now)) }
     ensures refused_alone { declared.entry ≡ None
         → IfErr result (DefinitionFaultStands definition.now) }
 {
@@ -98,7 +97,7 @@ impl Request<'_> {
     fn draw(&self, alloc: Global, declared: &[u8]) -> Result<Drawn, RunFault>
         ensures drawn { IfOk result
             (Draws self.now.max_rounds self.now.definition.now declared.now) }
-        ensures refused { IfErr result (InferFaultStands self.now.definition.now declared.now) }
+        ensures refused { IfErr result (SubjectFaultStands self.now.definition.now declared.now) }
     {
         let subject = read_subject(alloc, self.definition, declared)?;
         or_out_of_memory(self.draw_subject(alloc, &subject))

@@ -1,6 +1,6 @@
 //! The text of a picture.
 use asl_graph::{Drawn, Format, graph_texts};
-use asl_tool::RunFault;
+use asl_texts::RunFault;
 use std::alloc::Global;
 use std::process::Abort;
 

@@ -1,7 +1,7 @@
 //! What is refused, and what doesn't settle.
 use crate::drawing::drawn;
 use asl_graph::{Drawn, Format, graph_texts};
-use asl_tool::{RunFault, TextFault, TextRefusal, Which};
+use asl_texts::{RunFault, TextFault, TextRefusal, Which};
 use asl_tree::TreeRefusal;
 
 const DEFINITION: &str = r#"{"StartAt":"A","States":{"A":{"Type":"Pass","Result":1,"End":true}}}"#;

@@ -7,7 +7,7 @@ use Rattle.asl_states.specs.Table.{Shows}
 use Rattle.asl_states.specs.declared.machine.Machine.{Machine}
 use Rattle.asl_records.specs.View.{declared_view}
 use Rattle.asl_records.specs.declared.records.Declared.{Declared}
-use Rattle.asl_tool.specs.Verifying.{ReadsInto}
+use Rattle.asl_texts.specs.Verifying.{ReadsInto}
 use Rattle.asl_lint.specs.Tells.{TellsOfBoth, TellsOfDeclared, TellsOfDefinition, TellsOfMachine, both_read, declared_reads, definition_reads, neither_reads}
 use Rattle.asl_problems.specs.Told.{Told}
 

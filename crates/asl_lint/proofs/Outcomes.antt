@@ -14,7 +14,7 @@ use Rattle.asl_model.specs.Verdict.{Accepted, IsTelling}
 use Rattle.asl_model.proofs.ReadingLaws.{declared_text_has_no_fault, definition_has_no_fault, none_listed, text_has_one_declared, text_has_one_machine}
 use Rattle.asl_draft_laws.specs.Drafts.{IsInferred}
 use Rattle.asl_tool.specs.VerifiedInference.{IsVerdictOnInferred}
-use Rattle.asl_tool.specs.Verifying.{MachineReads}
+use Rattle.asl_texts.specs.Verifying.{MachineReads}
 use Rattle.asl_lint.specs.Linted as faulty
 use Rattle.asl_lint.specs.Linted.{IsFaulty}
 use Rattle.asl_lint.specs.Tells as tells

@@ -3,9 +3,9 @@ use Rattle.std.proofs.Common.{◌≡◌, ◌≢◌, ◌↔◌, ℕ, List, [], Op
 use Rattle.std.specs.List.{list_any}
 use Rattle.asl_model.specs.Names.{Bytes}
 use Rattle.asl_model.specs.Verdict.{Accepted}
-use Rattle.asl_tool.proofs.Promises.{Certified, Quiet, Unbroken}
+use Rattle.asl_texts.proofs.Promises.{Certified, Quiet, Unbroken}
 use Rattle.asl_tool.specs.VerifiedInference.{IsVerdictOnInferred, NeverFaultsAsInferred}
-use Rattle.asl_tool.specs.Verifying.{MachineReads}
+use Rattle.asl_texts.specs.Verifying.{MachineReads}
 use Rattle.asl_diagnostics.specs.declared.Diagnostic.{Diagnostic}
 use Rattle.asl_lint.specs.Linted.{IsFaulty, Tells, WhereDeclared, WhereUndeclared, text_of}
 use Rattle.asl_problems.specs.Told.{Told, errors_in, has_error, is_error, told_of}

@@ -6,7 +6,7 @@ use Rattle.asl_model.specs.Json.{ReadsAsValue}
 use Rattle.asl_model.specs.Names.{Bytes}
 use Rattle.asl_model.specs.Texts.{IsNoJson, ReadsAsDeclared}
 use Rattle.asl_records.specs.View.{declared_view}
-use Rattle.asl_tool.specs.Verifying.{ReadsInto}
+use Rattle.asl_texts.specs.Verifying.{ReadsInto}
 use Rattle.asl_lint.specs.Tells.{TellsOfDeclared, TellsOfDefinition}
 use Rattle.asl_problems.specs.Told.{told_by}
 use Rattle.asl_lint.specs.declared.reading.Declaration.{Declaration}

@@ -3,7 +3,7 @@ ghost use Rattle.std.specs.Prelude.{◌≡◌, ◌↔◌, IfOk, false, map, not,
 ghost use Rattle.std.specs.List.{list_any};
 ghost use Rattle.asl_model.specs.Verdict.{Accepted};
 ghost use Rattle.asl_tool.specs.VerifiedInference.{IsVerdictOnInferred, NeverFaultsAsInferred};
-ghost use Rattle.asl_tool.specs.Verifying.{MachineReads};
+ghost use Rattle.asl_texts.specs.Verifying.{MachineReads};
 ghost use Rattle.asl_lint.specs.Linted.{IsFaulty, Tells, WhereDeclared, WhereUndeclared, tells_no_json, text_of};
 ghost use Rattle.asl_problems.specs.Told.{has_error};
 

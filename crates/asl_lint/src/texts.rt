@@ -4,7 +4,7 @@ ghost use Rattle.asl_model.specs.Machine.{Scope};
 ghost use Rattle.asl_model.specs.Names.{Bytes};
 ghost use Rattle.asl_states.specs.Table.{Shows};
 ghost use Rattle.asl_records.specs.View.{declared_view};
-ghost use Rattle.asl_tool.specs.Verifying.{ReadsInto};
+ghost use Rattle.asl_texts.specs.Verifying.{ReadsInto};
 ghost use Rattle.asl_lint.specs.Reading.{IsDeclaration};
 ghost use Rattle.asl_lint.specs.Tells.{TellsOfBoth, TellsOfDefinition, TellsOfMachine, TellsOfOne, TellsOfTexts};
 ghost use Rattle.asl_problems.specs.Told.{errors_of, told_by};

@@ -4,7 +4,7 @@ use crate::definitions::definition_paths;
 use crate::reports::{Format, Report, Told};
 use asl_files::{ROUNDS, Unread, finish, is_input, print_text, text_or_why};
 use asl_lint::{File, lint};
-use asl_tool::{Closing, RunFault};
+use asl_texts::{Closing, RunFault};
 use asl_tree::OutOfMemory;
 use std::alloc::Global;
 use std::fs;

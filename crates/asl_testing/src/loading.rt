@@ -9,7 +9,7 @@ use asl_suites::{
     Case, CaseAnswers, Expected, Input as CaseInput, MockSource, Mocks, Suite, SuiteRefusal,
     read_mocks, read_suite,
 };
-use asl_tool::{
+use asl_texts::{
     Closing, RunFault, TextFault, TextRefusal, closing, read_declared_text, read_definition,
 };
 use asl_tree::{OutOfMemory, Tree, TreeRefusal, in_line, read};

@@ -6,7 +6,7 @@ use asl_files::{end, or_out_of_memory, print_text};
 use asl_machine::Machine;
 use asl_records::Declared;
 use asl_results::{CaseResult, Format, SuiteResult, report};
-use asl_tool::RunFault;
+use asl_texts::RunFault;
 use asl_tree::{OutOfMemory, in_line, quoted};
 use std::alloc::Global;
 use std::rt::Files;

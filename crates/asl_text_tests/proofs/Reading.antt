@@ -3,7 +3,7 @@ use Rattle.std.proofs.Common.{◌≡◌, ◌+◌, ◌<◌, ◌++◌, ℕ, List, 
 use Rattle.std.proofs.lemmas.List.{length-replicate, replicate-append-replicate, take_all}
 use Rattle.std.proofs.lemmas.Bool.{lt-ltb}
 use Rattle.std.specs.Prelude.{replicate, Result, Ok, Err, OnOk, IsErr}
-use Rattle.asl_tool.specs.Fronts.{ReadsFronts, NoFrontIsLong}
+use Rattle.asl_texts.specs.Fronts.{ReadsFronts, NoFrontIsLong}
 use Rattle.asl_text_tests.specs.Repeated.{Repeats}
 
 -- behind a buffer that is full of it the source goes on

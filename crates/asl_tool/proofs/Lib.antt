@@ -1,17 +1,1 @@
-pub mod Agreeing
-pub mod CertificateTokens
-pub mod Failures
-pub mod Fronts
 pub mod InferredOnce
-pub mod LineSteps
-pub mod NumberedNesting
-pub mod Promises
-pub mod RaiseLines
-pub mod RefusedAnswers
-pub mod RefusedTexts
-pub mod Replies
-pub mod RunEnds
-pub mod RunFaults
-pub mod Slices
-pub mod Stepwise
-pub mod WriteSteps

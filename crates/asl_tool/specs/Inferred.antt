@@ -1,5 +1,5 @@
--- What is inferred of two texts, a definition and declared shapes, and why nothing is.
-use Rattle.std.specs.Prelude.{◌≡◌, ◌*◌, ◌≤◌, ℕ, List, Bool, true, false, string_bytes, ⊤}
+-- What is inferred of two texts, a definition and declared shapes.
+use Rattle.std.specs.Prelude.{◌≡◌, ◌*◌, ◌≤◌, ℕ, List, Bool, string_bytes, ⊤}
 use Rattle.asl_model.specs.Certificate as model
 use Rattle.asl_model.specs.Certificate.{Declared, IsClosed}
 use Rattle.asl_model.specs.Finding as finding
@@ -7,24 +7,13 @@ use Rattle.asl_model.specs.Headline.{ReadAs}
 use Rattle.asl_model.specs.Json.{compact_text}
 use Rattle.asl_model.specs.Machine.{Scope}
 use Rattle.asl_model.specs.Numbering.{table_of}
-use Rattle.asl_model.specs.Tree.{Tree}
-use Rattle.asl_model.specs.Texts.{Which, DefinitionText, DeclaredText, CertificateText, InputText, AnswersText, TextFault, ReadsAsMachine, ReadsAsDeclared}
-use Rattle.asl_model.specs.Written.{written_certificate}
-use Rattle.asl_model.specs.WrittenNumbered.{written_numbered}
+use Rattle.asl_model.specs.Texts.{ReadsAsMachine, ReadsAsDeclared}
 use Rattle.asl_draft_laws.specs.Drafts.{IsInferred, IsTold, NeverSettles}
 use Rattle.asl_check.specs.View.{finding_view}
 use Rattle.asl_infer.specs.Inferring.{IsOfMachine, certified_shapes}
-use Rattle.asl_tool.specs.Verifying.{MachineReads, RefusesDefinition, RefusesDeclared}
-use Rattle.asl_tool.specs.View.{which_view, text_fault_view}
+use Rattle.asl_texts.specs.CertificateText.{written_as}
 use Rattle.asl_tool.specs.declared.inferring.Inferred.{Inferred}
 use Rattle.asl_tool.specs.declared.inferring.Inferred.TheVariants.{Certificate, Finding, NotSettled}
-use Rattle.asl_tool.specs.declared.refusals.RunFault.{RunFault}
-use Rattle.asl_tool.specs.declared.refusals.RunFault.TheVariants as run
-
--- the tree of a certificate, with a list of its shapes or without one
-abbrev pub written_as : Bool → model.Certificate → Tree
-written_as true certificate = written_numbered certificate
-written_as false certificate = written_certificate certificate
 
 -- The three texts read, and the certificate that the third one reads as is the one that is inferred in so many rounds of
 -- the machine and the declared shapes that the others read as, and closed for these. The text is the compact one of what
@@ -77,21 +66,3 @@ abbrev pub WhereNotSettled : Type 0 → Inferred → Type 0
 WhereNotSettled promise (Certificate text) = ⊤
 WhereNotSettled promise (Finding found) = ⊤
 WhereNotSettled promise NotSettled = promise
-
--- ---- faults
-
--- the text is the first of the two that is refused, and the fault stands in it, or there was no memory to say
-abbrev pub IsFirstOfTwo : List ℕ → List ℕ → Which → TextFault → Type 0
-IsFirstOfTwo definition declared DefinitionText f = RefusesDefinition definition f
-IsFirstOfTwo definition declared DeclaredText f = MachineReads definition × RefusesDeclared declared f
-IsFirstOfTwo definition declared CertificateText f = ⊥
-IsFirstOfTwo definition declared InputText f = ⊥
-IsFirstOfTwo definition declared AnswersText f = ⊥
-
--- why nothing is inferred: a refused text, or there was no memory
-abbrev pub InferFaultStands : List ℕ → List ℕ → RunFault → Type 0
-InferFaultStands definition declared (run.Text refusal) = IsFirstOfTwo definition declared (which_view refusal.which) (text_fault_view refusal.fault)
-InferFaultStands definition declared run.TooLong = ⊥
-InferFaultStands definition declared run.Read = ⊥
-InferFaultStands definition declared run.Write = ⊥
-InferFaultStands definition declared run.OutOfMemory = ⊤

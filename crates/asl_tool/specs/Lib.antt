@@ -1,16 +1,3 @@
-pub mod Answers
-pub mod CertificateTokens
-pub mod Chunk
 pub mod FirstTold
-pub mod Fronts
 pub mod Inferred
-pub mod Lines
-pub mod OfLines
-pub mod Runs
-pub mod Subjects
-pub mod Texts
-pub mod Tracing
 pub mod VerifiedInference
-pub mod Verifying
-pub mod View
-pub mod Writing

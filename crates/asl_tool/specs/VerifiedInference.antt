@@ -1,5 +1,5 @@
 -- What is told of a certificate that is inferred of two texts, a definition and declared shapes.
-use Rattle.std.specs.Prelude.{ℕ, List, Bool, ⊤, ◌↔◌}
+use Rattle.std.specs.Prelude.{ℕ, List, Bool, ⊤}
 use Rattle.asl_model.specs.Certificate.{Declared, Certificate, IsClosed, Obeys, TellsNoFault, RunIsAsCertified}
 use Rattle.asl_model.specs.Finding as finding
 use Rattle.asl_model.specs.Headline.{IsVerdictOn}
@@ -9,7 +9,7 @@ use Rattle.asl_model.specs.Run.{Event, run_of, trace}
 use Rattle.asl_model.specs.Texts.{ReadsAsMachine, ReadsAsDeclared}
 use Rattle.asl_model.specs.Tree.{Tree}
 use Rattle.asl_model.specs.Verdict as verdict
-use Rattle.asl_model.specs.Verdict.{IsRight, TellsOf}
+use Rattle.asl_model.specs.Verdict.{IsRight}
 use Rattle.asl_draft_laws.specs.Drafts.{IsInferred}
 use Rattle.asl_check.specs.View.{finding_view, verdict_view}
 use Rattle.asl_tool.specs.Inferred.{IsWrittenFor}
@@ -32,14 +32,6 @@ abbrev pub IsVerdictOnWritten : ℕ → List ℕ → List ℕ → verdict.Verdic
 IsVerdictOnWritten rounds definition declared told = (numbered : Bool) (text : List ℕ)
     → IsWrittenFor numbered rounds definition declared text
     → IsVerdictOn definition declared text told
-
--- two verdicts agree: both are yes, or both are no with findings of the same names
-abbrev pub Agree : verdict.Verdict → verdict.Verdict → Type 0
-Agree verdict.Accepted verdict.Accepted = ⊤
-Agree verdict.Accepted (verdict.Rejected told) = ⊥
-Agree (verdict.Rejected told) verdict.Accepted = ⊥
-Agree (verdict.Rejected told) (verdict.Rejected others) =
-    (n : List ℕ) → TellsOf told n ↔ TellsOf others n
 
 -- The two texts read, and for every input of the declared shape and every list of moves and task answers, branches and
 -- iterations interleaved in any way, each answer a failure or of its declared shape, the run raises none of the six

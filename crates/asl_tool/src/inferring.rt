@@ -1,27 +1,17 @@
 //! From a definition and declared shapes, given as texts, to the text of a certificate, or to the verdict on it.
 
-ghost use Rattle.std.specs.Prelude.{◌≡◌, ◌≤◌, IfOk, IfErr, string_bytes};
-ghost use Rattle.serde_json.specs.Data.{depth};
-ghost use Rattle.serde_json.specs.Read.{max_depth};
+ghost use Rattle.std.specs.Prelude.{IfOk, IfErr};
 ghost use Rattle.asl_model.specs.Headline.{WhereAccepted};
-ghost use Rattle.asl_model.specs.Json.{compact_text, value_of};
-ghost use Rattle.asl_model.specs.Texts.{ReadsAsCertificate};
-ghost use Rattle.asl_model.specs.Written.{written_certificate};
-ghost use Rattle.asl_model.specs.WrittenNumbered.{written_numbered};
-ghost use Rattle.asl_records.specs.Numbered.{AreWithin, numbered_view};
+ghost use Rattle.asl_texts.specs.Subjects.{SubjectFaultStands};
 ghost use Rattle.asl_tool.specs.FirstTold.{TellsFirstOnInferred, TellsFirstOnWritten};
-ghost use Rattle.asl_tool.specs.Inferred.{AreFewRounds, InferFaultStands, IsFindingOn, IsWrittenFor, WhereCertificate, WhereFinding, WhereNotSettled, written_as};
+ghost use Rattle.asl_tool.specs.Inferred.{AreFewRounds, IsFindingOn, IsWrittenFor, WhereCertificate, WhereFinding, WhereNotSettled};
 ghost use Rattle.asl_tool.specs.VerifiedInference.{IsVerdictOnInferred, IsVerdictOnWritten, NeverFaultsAsInferred, Tells, WhereVerdict};
 
-use crate::certificate_text::plain_text;
-use crate::refusals::RunFault;
-use crate::subjects::read_subject;
 use asl_check::{Finding, Verdict, check_numbered};
 use asl_infer::{InferRefusal, infer_numbered};
 use asl_model::reading_laws::texts_have_one_meaning;
 use asl_model::run_laws::{closed_runs_never_fault, closed_runs_tell_no_fault};
-use asl_records::{NumberedCertificate, write_numbered};
-use asl_tree::{OutOfMemory, to_text};
+use asl_texts::{RunFault, read_subject, text_of_certificate};
 use std::alloc::Global;
 
 /// What is inferred of a machine and its declared shapes.
@@ -59,7 +49,7 @@ pub fn infer_texts(
         (WhereFinding (IsFindingOn max_rounds definition.now declared.now)) }
     ensures not_settled { IfOk result
         (WhereNotSettled (AreFewRounds definition.now declared.now max_rounds)) }
-    ensures refused { IfErr result (InferFaultStands definition.now declared.now) }
+    ensures refused { IfErr result (SubjectFaultStands definition.now declared.now) }
 {
     let subject = read_subject(alloc, definition, declared)?;
     let inferred = infer_numbered(alloc, &subject.machine, &subject.declared, max_rounds);
@@ -69,7 +59,7 @@ pub fn infer_texts(
         Err(InferRefusal::NotSettled) => return Ok(Inferred::NotSettled),
         Err(InferRefusal::OutOfMemory) => return Err(RunFault::OutOfMemory),
     };
-    match written_text(alloc, &certificate, numbered) {
+    match text_of_certificate(alloc, &certificate, numbered) {
         Ok(text) => Ok(Inferred::Certificate(text)),
         Err(_) => Err(RunFault::OutOfMemory),
     }
@@ -115,7 +105,7 @@ pub fn verify_inferred(
     ensures otherwise { IfOk result
         (Tells (IsFindingOn max_rounds definition.now declared.now)
         (AreFewRounds definition.now declared.now max_rounds)) }
-    ensures refused { IfErr result (InferFaultStands definition.now declared.now) }
+    ensures refused { IfErr result (SubjectFaultStands definition.now declared.now) }
 {
     let subject = read_subject(alloc, definition, declared)?;
     let settled = infer_numbered(alloc, &subject.machine, &subject.declared, max_rounds);
@@ -132,38 +122,4 @@ pub fn verify_inferred(
         Ok(verdict) => Ok(Verified::Verdict(verdict)),
         Err(_) => Err(RunFault::OutOfMemory),
     }
-}
-
-/// The compact text of what is written of a certificate, with a list of its shapes or without one.
-fn written_text(
-    alloc: Global,
-    certificate: &NumberedCertificate,
-    numbered: bool,
-) -> Result<String, OutOfMemory>
-    requires within { AreWithin certificate.now }
-    requires shallow { depth (value_of (written_certificate (numbered_view certificate.now)))
-        ≤ max_depth }
-    ensures text { IfOk result (λ text. string_bytes text
-        ≡ compact_text (written_as numbered (numbered_view certificate.now))) }
-    ensures reads_back { IfOk result
-        (λ text. ReadsAsCertificate (string_bytes text) (numbered_view certificate.now)) }
-{
-    if numbered {
-        numbered_text(alloc, certificate)
-    } else {
-        plain_text(alloc, certificate)
-    }
-}
-
-/// The one with a list of its shapes.
-fn numbered_text(alloc: Global, certificate: &NumberedCertificate) -> Result<String, OutOfMemory>
-    requires { AreWithin certificate.now }
-    ensures text { IfOk result (λ text. string_bytes text
-        ≡ compact_text (written_numbered (numbered_view certificate.now))) }
-    ensures reads_back { IfOk result
-        (λ text. ReadsAsCertificate (string_bytes text) (numbered_view certificate.now)) }
-{
-    certificate.shapes.are_proper();
-    let tree = write_numbered(alloc, certificate)?;
-    to_text(alloc, &tree)
 }

@@ -2,8 +2,8 @@ use Rattle.asl_records.specs.Numbered.{numbered_view}
 use Rattle.asl_records.specs.View.{declared_view}
 use Rattle.asl_tool.proofs.inferring.infer_texts.Goals as goal
 
-pub returns-in-Ok-written_text-clause-certificate : goal.returns-in-Ok-written_text-clause-certificate
-returns-in-Ok-written_text-clause-certificate c =
+pub returns-in-Ok-text_of_certificate-clause-certificate : goal.returns-in-Ok-text_of_certificate-clause-certificate
+returns-in-Ok-text_of_certificate-clause-certificate c =
     let subject = c.in_ok-subject.subject in
     let read = c.in_ok-subject.ensures.read in
     let definition = read.machine.definition in
@@ -11,10 +11,10 @@ returns-in-Ok-written_text-clause-certificate c =
       machine = definition;
       shapes = declared_view subject.declared;
       certified = numbered_view c.in-Ok.certificate;
-      read = record { as_machine = read.machine.reads; as_declared = read.as_declared; as_certificate = c.in-Ok-written_text.ensures.reads_back };
+      read = record { as_machine = read.machine.reads; as_declared = read.as_declared; as_certificate = c.in-Ok-text_of_certificate.ensures.reads_back c.in-Ok.ensures.shallow };
       inferred = c.in-Ok.ensures.inferred definition read.machine.shown;
       closed = c.in-Ok.ensures.closed definition read.machine.shown;
-      compact = c.in-Ok-written_text.ensures.text;
+      compact = c.in-Ok-text_of_certificate.ensures.text;
     }
 
 pub returns-in-Err-Finding-clause-finding : goal.returns-in-Err-Finding-clause-finding

@@ -6,7 +6,7 @@ use Rattle.asl_check.specs.Told.{listed, TellsFirst}
 use Rattle.asl_check.specs.View.{verdict_view}
 use Rattle.asl_tool.specs.VerifiedInference.{NeverFaultsAsInferred}
 use Rattle.asl_tool.proofs.InferredOnce.{first_on_written, verdict_on_written}
-use Rattle.asl_tool.proofs.Promises.{where_accepted}
+use Rattle.asl_texts.proofs.Promises.{where_accepted}
 use Rattle.asl_tool.proofs.inferring.verify_inferred.Goals as goal
 
 pub returns-in-Err-Finding-clause-otherwise : goal.returns-in-Err-Finding-clause-otherwise

@@ -1,6 +1,6 @@
 use Rattle.std.proofs.Common.{sym, subst}
 use Rattle.std.proofs.lemmas.Result.{IfErr-weaker, IfOk-at_ok, IfOk-weaker}
-use Rattle.asl_tool.specs.Inferred.{InferFaultStands}
+use Rattle.asl_texts.specs.Subjects.{SubjectFaultStands}
 use Rattle.asl_graph.specs.Answers.{Draws}
 use Rattle.asl_graph.proofs.graphing.Request.draw.Goals as goal
 
@@ -17,4 +17,4 @@ returns-clause-refused c =
     let definition = c.args.self.now.definition.now in
     let declared = c.args.declared.now in
     let told = c.or_out_of_memory in
-    IfErr-weaker told.result _ _ (λ fault same. subst (InferFaultStands definition declared) (sym same) tt) told.ensures.refused
+    IfErr-weaker told.result _ _ (λ fault same. subst (SubjectFaultStands definition declared) (sym same) tt) told.ensures.refused

@@ -1,0 +1,74 @@
+-- What a refusal of one text comes to, and of which of the three.
+use Rattle.std.proofs.Common.{ℕ, List, Option, Some, None, option_map}
+use Rattle.std.specs.Option.{unwrap_or}
+use Rattle.serde_json.specs.Data.{Data}
+use Rattle.asl_model.specs.Machine.{Scope}
+use Rattle.asl_model.specs.Certificate.{Declared}
+use Rattle.asl_model.specs.StandsFor.{Complaint}
+use Rattle.asl_model.specs.Json.{ReadsAsValue}
+use Rattle.asl_model.specs.Texts.{DefinitionText, DeclaredText, CertificateText, TextFault, NotJson, NotWhole, BadDefinition, BadRecord, BadAnswer, NoMemory, definition_no_json, definition_complaint, declared_no_json, declared_not_whole, declared_complaint, certificate_no_json, certificate_not_whole, certificate_complaint, definition_refused, declared_refused, certificate_refused, ReadsAsMachine, ReadsAsDeclared}
+use Rattle.asl_machine.specs.Refusal.{IsRefused as IsRefusedValue, without_memory, for_broken_rule}
+use Rattle.asl_records.specs.Refusal.{IsDeclaredRefusal, IsCertificateRefusal}
+use Rattle.asl_records.specs.declared.refusals.ReadFault.{ReadFault}
+use Rattle.asl_records.specs.declared.refusals.ReadFault.TheVariants as kept
+use Rattle.asl_texts.specs.Verifying.{UnreadableStands, no_json, unread, record_fault_of, RefusesDefinition, definition_fault, definition_no_memory, RefusesDeclared, declared_fault, declared_no_memory, RefusesCertificate, certificate_fault, certificate_no_memory, IsRefused, fault_stands, definition_unread, declared_unread, certificate_unread}
+
+-- ---- a text that gives no JSON value
+
+pub unread-definition : (text : List ℕ) (f : TextFault) → UnreadableStands text f → RefusesDefinition text f
+unread-definition text NotJson (no_json h) = definition_fault (definition_no_json h)
+unread-definition text NotWhole x = elim x [ ]
+unread-definition text (BadDefinition c) x = elim x [ ]
+unread-definition text (BadRecord c) x = elim x [ ]
+unread-definition text (BadAnswer n) x = elim x [ ]
+unread-definition text NoMemory unread = definition_no_memory
+
+pub unread-declared : (text : List ℕ) (f : TextFault) → UnreadableStands text f → RefusesDeclared text f
+unread-declared text NotJson (no_json h) = declared_fault (declared_no_json h)
+unread-declared text NotWhole x = elim x [ ]
+unread-declared text (BadDefinition c) x = elim x [ ]
+unread-declared text (BadRecord c) x = elim x [ ]
+unread-declared text (BadAnswer n) x = elim x [ ]
+unread-declared text NoMemory unread = declared_no_memory
+
+pub unread-certificate : (text : List ℕ) (f : TextFault) → UnreadableStands text f → RefusesCertificate text f
+unread-certificate text NotJson (no_json h) = certificate_fault (certificate_no_json h)
+unread-certificate text NotWhole x = elim x [ ]
+unread-certificate text (BadDefinition c) x = elim x [ ]
+unread-certificate text (BadRecord c) x = elim x [ ]
+unread-certificate text (BadAnswer n) x = elim x [ ]
+unread-certificate text NoMemory unread = certificate_no_memory
+
+-- ---- a value that is refused
+
+pub refused-definition : (text : List ℕ) (v : Data) (told : Option Complaint) → ReadsAsValue text v → IsRefusedValue v told → RefusesDefinition text (unwrap_or (option_map BadDefinition told) NoMemory)
+refused-definition text v None reads without_memory = definition_no_memory
+refused-definition text v (Some c) reads (for_broken_rule h) = definition_fault (definition_complaint reads h)
+
+pub refused-declared : (text : List ℕ) (v : Data) (fault : ReadFault) → ReadsAsValue text v → IsDeclaredRefusal v fault → RefusesDeclared text (record_fault_of fault)
+refused-declared text v kept.NotWhole reads h = declared_fault (declared_not_whole reads h)
+refused-declared text v (kept.Record refusal) reads h = rw h.1 (declared_fault (declared_complaint reads h.2))
+refused-declared text v kept.OutOfMemory reads h = declared_no_memory
+
+pub refused-certificate : (text : List ℕ) (v : Data) (fault : ReadFault) → ReadsAsValue text v → IsCertificateRefusal v fault → RefusesCertificate text (record_fault_of fault)
+refused-certificate text v kept.NotWhole reads h = certificate_fault (certificate_not_whole reads h)
+refused-certificate text v (kept.Record refusal) reads h = rw h.1 (certificate_fault (certificate_complaint reads h.2))
+refused-certificate text v kept.OutOfMemory reads h = certificate_no_memory
+
+-- ---- which of the three texts
+
+pub definition-first : (definition declared certificate : List ℕ) (f : TextFault) → RefusesDefinition definition f → IsRefused definition declared certificate DefinitionText f
+definition-first definition declared certificate f (definition_fault h) = fault_stands (definition_refused h)
+definition-first definition declared certificate NoMemory definition_no_memory = definition_unread
+
+pub declared-first : (definition declared certificate : List ℕ) (machine : Scope) (f : TextFault) → ReadsAsMachine definition machine → RefusesDeclared declared f → IsRefused definition declared certificate DeclaredText f
+declared-first definition declared certificate machine f m (declared_fault h) = fault_stands (declared_refused m h)
+declared-first definition declared certificate machine NoMemory m declared_no_memory = declared_unread (record { machine = machine; as_machine = m })
+
+-- there was no memory for the certificate, or to check it
+pub no_memory_to_check : (definition declared certificate : List ℕ) (machine : Scope) (shapes : Declared) → ReadsAsMachine definition machine → ReadsAsDeclared declared shapes → IsRefused definition declared certificate CertificateText NoMemory
+no_memory_to_check definition declared certificate machine shapes m d = certificate_unread (record { machine = machine; as_machine = m }) (record { shapes = shapes; as_declared = d })
+
+pub certificate-first : (definition declared certificate : List ℕ) (machine : Scope) (shapes : Declared) (f : TextFault) → ReadsAsMachine definition machine → ReadsAsDeclared declared shapes → RefusesCertificate certificate f → IsRefused definition declared certificate CertificateText f
+certificate-first definition declared certificate machine shapes f m d (certificate_fault h) = fault_stands (certificate_refused m d h)
+certificate-first definition declared certificate machine shapes NoMemory m d certificate_no_memory = no_memory_to_check definition declared certificate machine shapes m d

@@ -1,0 +1,60 @@
+use Rattle.std.proofs.Common.{◌≡◌, List, ℕ, None, ◌+◌, ◌++◌, ◌∙◌, map, sym, ap, subst, arith}
+use Rattle.asl_states.specs.Table.{Shows}
+use Rattle.asl_model.specs.Machine.{Scope}
+use Rattle.asl_model.specs.Run as model
+use Rattle.asl_model.specs.Run.{outcome_of, start}
+use Rattle.asl_model.specs.TracePrinted.{trace_text}
+use Rattle.asl_run.specs.Driving.{placed_entry, policy_of}
+use Rattle.asl_run.specs.Entries.{entry_view}
+use Rattle.asl_run.specs.Running.{run_view}
+use Rattle.asl_run.specs.declared.entries.Entry as code
+use Rattle.asl_trace.specs.Lines.{lines_text}
+use Rattle.asl_tree.specs.View.{view}
+use Rattle.asl_texts.specs.Tracing.{begun}
+use Rattle.asl_texts.proofs.Stepwise.{Written, goes_on, none_written, stopped_there}
+use Rattle.asl_texts.proofs.running.trace.Goals as goal
+
+pub steps-init : goal.steps-init
+steps-init g c =
+    let policy = policy_of (g.O.Order.may_pick c.args.order.now) (g.A.Answers.may_give c.args.answers.now) (g.A.Answers.may_be_silent c.args.answers.now c.args.answers.now) in
+    let given = g.A.Answers.content c.args.answers.now in
+    record {
+      run = λ m shown. c.in-Ok.ensures.of_machine m shown;
+      written = λ m shown.
+          let first = start m (view c.args.input) in
+          let before = begun m (view c.args.input) given in
+          let none : Written policy m 0 before (lines_text c.new-lines.result) first given = subst (λ text. Written policy m 0 before text first given) (sym c.new-lines.ensures) (none_written policy m first given) in
+          subst (λ a. Written policy m 0 before (lines_text c.new-lines.result) a given) (sym (c.in-Ok.ensures.starts m shown)) none;
+      goes_on = λ m shown. ap outcome_of (c.in-Ok.ensures.starts m shown);
+      lasting_order = λ n k e. e;
+      lasting = λ n t answer e. e;
+      lasting_silent = λ later n t e. e;
+    }
+
+pub returns-in_default : goal.returns-in_default
+returns-in_default g c = λ m h.
+    let so_far = c.steps.invariant in
+    let lines = lines_text c.add.new.self in
+    let P : List code.Entry → Type 0 = λ es. (told : List (List ℕ × model.Entry)) → map entry_view es ≡ map placed_entry told → lines ≡ lines_text c.steps.lines ++ trace_text told in
+    stopped_there c.args.max_steps c.in-Ok-drive.driven.0 (omega arith) c.in_default.not-StepsSpent (so_far.written m h) (c.in-Ok-drive.ensures.stops m (so_far.run m h))
+    (record { picks = λ n k e. e; gives = λ n t answer e. e }) (record { picks = so_far.lasting_order; gives = so_far.lasting }) (so_far.lasting_silent c.drive.new.answers) (λ told same. c.into_bytes.ensures ∙ subst P c.deref.ensures.value c.in_ok-add.ensures told same)
+
+pub steps-preserved : goal.steps-preserved
+steps-preserved g c =
+    let so_far = c.steps.invariant in
+    let lines = lines_text c.add.new.self in
+    let P : List code.Entry → Type 0 = λ es. (told : List (List ℕ × model.Entry)) → map entry_view es ≡ map placed_entry told → lines ≡ lines_text c.steps.lines ++ trace_text told in
+    let policy = policy_of (g.O.Order.may_pick c.args.order.now) (g.A.Answers.may_give c.args.answers.now) (g.A.Answers.may_be_silent c.args.answers.now c.drive.new.answers) in
+    let left = g.A.Answers.content c.drive.new.answers in
+    let more : (m : Scope) → Shows c.args.machine.now m
+    → Written policy m (c.steps._taken + 1) (begun m (view c.args.input) (g.A.Answers.content c.args.answers.now)) lines (run_view c.drive.new.run) left × (outcome_of (run_view c.drive.new.run) ≡ None) =
+    λ m h. goes_on c.in-Ok-drive.driven.0 c.in-StepsSpent.is (so_far.written m h) (c.in-Ok-drive.ensures.stops m (so_far.run m h))
+    (record { picks = λ n k e. e; gives = λ n t answer e. e }) (record { picks = so_far.lasting_order; gives = so_far.lasting }) (subst P c.deref.ensures.value c.in_ok-add.ensures) in
+    record {
+      run = λ m h. c.in-Ok-drive.ensures.run m (so_far.run m h);
+      written = λ m h. (more m h).0;
+      goes_on = λ m h. (more m h).1;
+      lasting_order = λ n k e. so_far.lasting_order n k (c.in-Ok-drive.ensures.lasting_order n k e);
+      lasting = λ n t answer e. so_far.lasting n t answer (c.in-Ok-drive.ensures.lasting n t answer e);
+      lasting_silent = λ later n t e. so_far.lasting_silent later n t (c.in-Ok-drive.ensures.lasting_silent later n t e);
+    }

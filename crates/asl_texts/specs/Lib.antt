@@ -1,0 +1,16 @@
+pub mod Agreement
+pub mod Answers
+pub mod CertificateText
+pub mod CertificateTokens
+pub mod Chunk
+pub mod FirstTold
+pub mod Fronts
+pub mod Lines
+pub mod OfLines
+pub mod Runs
+pub mod Subjects
+pub mod Texts
+pub mod Tracing
+pub mod Verifying
+pub mod View
+pub mod Writing

@@ -1,5 +1,0 @@
-use Rattle.asl_tool.proofs.Replies.{ReadsAnswers}
-use Rattle.asl_tool.proofs.answering.answers_in.Given as goal
-
-abbrev pub invariant-loop-element : goal.invariant-loop-element
-invariant-loop-element l = ReadsAnswers l.fn.elements.items l.element-iterator.rest.items l.answers.items
