@@ -1,6 +1,6 @@
 //! From standard input or files to a verdict on standard output.
 
-use crate::command_line::TextFiles;
+use asl_command_line::TextFiles;
 use asl_files::{file_text, finish_with, input_source, print_verdict};
 use asl_tool::{Closing, RunFault, ToWrite, Verdict};
 use std::io;

@@ -1,6 +1,6 @@
 //! From a definition and declared shapes to explanations, on standard output.
 
-use crate::command_line::ExplainRequest;
+use asl_command_line::ExplainRequest;
 use asl_explain::{Explained, explain_texts};
 use asl_files::{ROUNDS, end, finish, or_out_of_memory, print_text, text_or_status};
 use asl_tool::{Closing, RunFault};

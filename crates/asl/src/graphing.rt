@@ -1,8 +1,8 @@
 //! From a definition to a picture of it, on standard output.
 
-use crate::command_line::GraphRequest;
+use asl_command_line::{GraphFormat, GraphRequest};
 use asl_files::{ROUNDS, end, finish, print_text, text_or_status};
-use asl_graph::{Drawn, graph_texts};
+use asl_graph::{Drawn, Format, graph_texts};
 use asl_tool::{Closing, RunFault};
 use std::rt::Files;
 
@@ -34,7 +34,11 @@ fn graphed_on<R: Print + Eprint + AllocGlobal>(
     definition: &[u8],
     declared: Option<&[u8]>,
 ) -> Result<u8, RunFault> {
-    let (format, shapes) = (request.format, request.shapes);
+    let format = match request.format {
+        GraphFormat::Mermaid => Format::Mermaid,
+        GraphFormat::Dot => Format::Dot,
+    };
+    let shapes = request.shapes;
     let drawn = graph_texts(rt.alloc(), definition, declared, format, shapes, ROUNDS)?;
     match drawn {
         Drawn::Graph(text) => {

@@ -1,6 +1,6 @@
 //! From files to an inferred certificate, or to the verdict on it, on standard output.
 
-use crate::command_line::{InferRequest, MachineFiles};
+use asl_command_line::{InferRequest, MachineFiles};
 use asl_files::{ROUNDS, file_text, finish_with, print_line, print_verdict};
 use asl_tool::{
     Closing, Finding, Inferred, RunFault, Verdict, Verified, infer_texts, verify_inferred,

@@ -11,27 +11,22 @@
 #![tactic(auto)]
 
 mod checking;
-mod command_line;
-mod commands;
-mod completions;
 mod declaring;
-mod endings;
 mod explaining;
 mod graphing;
 mod inferring;
+mod linting;
 mod running;
 mod sampling;
 
-use asl_linting::lint_files;
+use asl_command_line::{Request, print_completions, request_or_status, words_or_status};
 use asl_testing::test_files;
 use checking::{check_files, check_input};
-use command_line::{Request, asked, words};
-use completions::print_completions;
 use declaring::declare_file;
-use endings::refuse;
 use explaining::explain_files;
 use graphing::graph_file;
 use inferring::{infer_files, verify_files};
+use linting::lint;
 use running::run_files;
 use sampling::shape_files;
 use std::process::ExitCode;
@@ -43,23 +38,23 @@ fn main(rt: HostRuntime) -> ExitCode {
 
 /// Runs the program and gives its exit status.
 fn run<R: Env + Files + Input + Print + Eprint + AllocGlobal + Clone + Drop>(rt: &R) -> u8 {
-    let words = match words(rt) {
+    let words = match words_or_status(rt) {
         Ok(words) => words,
-        Err(error) => return refuse(rt, &error),
+        Err(status) => return status,
     };
-    match asked(rt.alloc(), &words) {
+    match request_or_status(rt, &words) {
         Ok(Request::CheckInput) => check_input(rt),
         Ok(Request::CheckFiles(files)) => check_files(rt, &files),
         Ok(Request::Infer(request)) => infer_files(rt, &request),
         Ok(Request::Verify(files)) => verify_files(rt, &files),
         Ok(Request::Run(request)) => run_files(rt, &request),
-        Ok(Request::Lint(request)) => lint_files(rt, &request),
+        Ok(Request::Lint(request)) => lint(rt, request),
         Ok(Request::Explain(request)) => explain_files(rt, &request),
         Ok(Request::Declare(name)) => declare_file(rt, name),
         Ok(Request::Shape(request)) => shape_files(rt, &request),
         Ok(Request::Test(request)) => test_files(rt, &request),
         Ok(Request::Graph(request)) => graph_file(rt, &request),
         Ok(Request::Complete(shell)) => print_completions(rt, shell),
-        Err(error) => refuse(rt, &error),
+        Err(status) => status,
     }
 }

@@ -1,6 +1,6 @@
 //! From files to the trace of a run on standard output.
 
-use crate::command_line::RunRequest;
+use asl_command_line::RunRequest;
 use asl_files::{file_source, file_text, finish_with, input_source, is_input};
 use asl_tool::{Closing, RunFault, Source, ToWrite};
 use std::io;

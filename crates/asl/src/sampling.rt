@@ -1,6 +1,6 @@
 //! From samples of data to the shape that they have in common, on standard output.
 
-use crate::command_line::ShapeRequest;
+use asl_command_line::ShapeRequest;
 use asl_diagnostics::rule_of_text;
 use asl_files::{end, or_out_of_memory, print_line, text_or_why};
 use asl_samples::{opened, shape_of, shape_text};

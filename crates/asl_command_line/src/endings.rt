@@ -1,7 +1,7 @@
 //! How the program ends where its command line asks for nothing that it does.
 
 use asl_files::finish;
-use asl_tool::{Closing, RunFault};
+use asl_texts::{Closing, RunFault};
 use clap::Error;
 use clap::error::ErrorKind;
 

@@ -5,10 +5,10 @@ mod bash;
 mod fish;
 mod zsh;
 
-use crate::command_line::Shell;
 use crate::commands::{FILES, program};
+use crate::requests::Shell;
 use asl_files::{end, or_out_of_memory, print_text};
-use asl_tool::RunFault;
+use asl_texts::RunFault;
 use asl_tree::OutOfMemory;
 use clap::builder::{ValueParser, ValueRange};
 use clap::{Arg, Command};
@@ -31,8 +31,8 @@ type Pushed = Result<(), AllocError>;
 /// The argument of the command for help.
 const TOPIC: &str = "subcommand";
 
-/// Writes the script for a shell to standard output, and gives the exit status.
-pub(crate) fn print_completions<R: Print + Eprint + AllocGlobal>(rt: &R, shell: Shell) -> u8 {
+/// Writes the script by which a shell completes the words of a command line to standard output, and gives the exit status.
+pub fn print_completions<R: Print + Eprint + AllocGlobal>(rt: &R, shell: Shell) -> u8 {
     end(rt, completions_on(rt, shell))
 }
 

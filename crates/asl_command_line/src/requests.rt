@@ -5,12 +5,11 @@ use crate::commands::{
     FILES, FORMAT, INPUT, MAX_STEPS, NUMBERED, OPEN, ORDER, SAMPLE, SHAPES, SHELL, STATE, SUITE,
     command_named, program,
 };
+use crate::endings::refuse;
 use asl_files::is_input;
-use asl_graph::Format as GraphFormat;
-use asl_linting::{Format, LintRequest};
 use asl_results::Format as ReportFormat;
 use asl_testing::TestRequest;
-use asl_tool::Pick;
+use asl_texts::Pick;
 use clap::error::ErrorKind;
 use clap::{ArgMatches, Error};
 use std::alloc::{AllocError, Global};
@@ -19,7 +18,7 @@ use std::{env, io};
 
 /// What the program is asked to do.
 #[derive(Drop)]
-pub(crate) enum Request<'a> {
+pub enum Request<'a> {
     /// To check the three lines of standard input.
     CheckInput,
     /// To check the texts in these files.
@@ -48,67 +47,95 @@ pub(crate) enum Request<'a> {
 
 /// The names of the files with the three texts.
 #[derive(Drop)]
-pub(crate) struct TextFiles<'a> {
-    pub(crate) definition: &'a str,
-    pub(crate) declared: &'a str,
-    pub(crate) certificate: &'a str,
+pub struct TextFiles<'a> {
+    pub definition: &'a str,
+    pub declared: &'a str,
+    pub certificate: &'a str,
 }
 
 /// The names of the files with a definition and the declared shapes.
 #[derive(Drop)]
-pub(crate) struct MachineFiles<'a> {
-    pub(crate) definition: &'a str,
-    pub(crate) declared: &'a str,
+pub struct MachineFiles<'a> {
+    pub definition: &'a str,
+    pub declared: &'a str,
 }
 
 /// What a certificate is inferred of, and whether it lists its shapes.
 #[derive(Drop)]
-pub(crate) struct InferRequest<'a> {
-    pub(crate) files: MachineFiles<'a>,
-    pub(crate) numbered: bool,
+pub struct InferRequest<'a> {
+    pub files: MachineFiles<'a>,
+    pub numbered: bool,
 }
 
 /// What is run, by the names of the files with the texts, and how.
 #[derive(Drop)]
-pub(crate) struct RunRequest<'a> {
-    pub(crate) definition: &'a str,
-    pub(crate) declared: Option<&'a str>,
-    pub(crate) input: &'a str,
-    pub(crate) answers: &'a str,
-    pub(crate) order: Pick,
-    pub(crate) max_steps: u64,
+pub struct RunRequest<'a> {
+    pub definition: &'a str,
+    pub declared: Option<&'a str>,
+    pub input: &'a str,
+    pub answers: &'a str,
+    pub order: Pick,
+    pub max_steps: u64,
+}
+
+/// Which definitions are looked at, and how it is told.
+#[derive(Drop)]
+pub struct LintRequest<'a> {
+    /// Files and folders, at least one.
+    pub names: Vec<&'a str>,
+    /// The file with the declared shapes of all of them.
+    pub declared: Option<&'a str>,
+    pub format: LintFormat,
+    /// Whether a warning weighs as much as an error.
+    pub deny_warnings: bool,
+}
+
+/// How diagnostics are written.
+#[derive(Clone, Copy)]
+pub enum LintFormat {
+    Text,
+    Json,
+    Sarif,
+    Github,
 }
 
 /// What is explained, of the texts in these files.
 #[derive(Drop)]
-pub(crate) struct ExplainRequest<'a> {
-    pub(crate) files: MachineFiles<'a>,
+pub struct ExplainRequest<'a> {
+    pub files: MachineFiles<'a>,
     /// The state that is asked about, in place of the findings.
-    pub(crate) state: Option<&'a str>,
+    pub state: Option<&'a str>,
 }
 
 /// Which samples have a shape, and what it says of objects.
 #[derive(Drop)]
-pub(crate) struct ShapeRequest<'a> {
+pub struct ShapeRequest<'a> {
     /// Files, at least one.
-    pub(crate) names: Vec<&'a str>,
+    pub names: Vec<&'a str>,
     /// Whether objects may have other fields than the samples have.
-    pub(crate) is_open: bool,
+    pub is_open: bool,
 }
 
 /// Of what a picture is printed, by the names of the files with the texts, and how.
 #[derive(Drop)]
-pub(crate) struct GraphRequest<'a> {
-    pub(crate) definition: &'a str,
-    pub(crate) declared: Option<&'a str>,
-    pub(crate) format: GraphFormat,
+pub struct GraphRequest<'a> {
+    pub definition: &'a str,
+    pub declared: Option<&'a str>,
+    pub format: GraphFormat,
     /// Whether the shape of what goes along each edge is told.
-    pub(crate) shapes: bool,
+    pub shapes: bool,
+}
+
+/// For what a picture is written.
+#[derive(Clone, Copy)]
+pub enum GraphFormat {
+    Mermaid,
+    Dot,
 }
 
 /// A shell that completes the words of a command line.
 #[derive(Clone, Copy)]
-pub(crate) enum Shell {
+pub enum Shell {
     Bash,
     Zsh,
     Fish,
@@ -122,8 +149,18 @@ const SEVERAL_INPUTS: &str = "\
 
 /// The words of the command line, with the program's own name in front.
 ///
+/// Where one isn't UTF-8, or there is no memory for them, that goes to standard error, and the exit status comes back.
+pub fn words_or_status<R: Env + Print + Eprint + AllocGlobal>(rt: &R) -> Result<Vec<String>, u8> {
+    match words(rt) {
+        Ok(words) => Ok(words),
+        Err(error) => Err(refuse(rt, &error)),
+    }
+}
+
+/// The words of the command line, with the program's own name in front.
+///
 /// Refused: in clap's words where one isn't UTF-8; OutOfMemory.
-pub(crate) fn words<R: Env + AllocGlobal>(rt: &R) -> Result<Vec<String>, Error> {
+fn words<R: Env + AllocGlobal>(rt: &R) -> Result<Vec<String>, Error> {
     match env::args(rt) {
         Ok(words) => Ok(words.collect(rt.alloc())?),
         Err(error) if error.kind() == io::ErrorKind::OutOfMemory => Err(Error::from(AllocError)),
@@ -137,9 +174,23 @@ pub(crate) fn words<R: Env + AllocGlobal>(rt: &R) -> Result<Vec<String>, Error> 
 
 /// What these words ask for.
 ///
+/// What clap refuses, and where several files are standard input, is told on standard error; help and the version, where
+/// they are asked for, go to standard output. Then the exit status comes back.
+pub fn request_or_status<'a, R: Print + Eprint + AllocGlobal>(
+    rt: &R,
+    words: &'a [String],
+) -> Result<Request<'a>, u8> {
+    match asked(rt.alloc(), words) {
+        Ok(request) => Ok(request),
+        Err(error) => Err(refuse(rt, &error)),
+    }
+}
+
+/// What these words ask for.
+///
 /// Refused: as clap does, a request for help or the version included; where several files are standard input;
 /// OutOfMemory.
-pub(crate) fn asked<'a>(alloc: Global, words: &'a [String]) -> Result<Request<'a>, Error> {
+fn asked<'a>(alloc: Global, words: &'a [String]) -> Result<Request<'a>, Error> {
     let matches = program(alloc)?.try_get_matches_from(words)?;
     match matches.subcommand() {
         Some((name, given)) => {
@@ -245,10 +296,10 @@ fn lint_request<'a>(alloc: Global, given: &ArgMatches<'a>) -> Result<LintRequest
         names: files_named(alloc, given, FILE)?,
         declared: given.get_str(DECLARED_FILE),
         format: match given.get_str(FORMAT) {
-            Some("json") => Format::Json,
-            Some("sarif") => Format::Sarif,
-            Some("github") => Format::Github,
-            _ => Format::Text,
+            Some("json") => LintFormat::Json,
+            Some("sarif") => LintFormat::Sarif,
+            Some("github") => LintFormat::Github,
+            _ => LintFormat::Text,
         },
         deny_warnings: given.get_flag(DENY_WARNINGS),
     })
