@@ -6,4 +6,4 @@ use Rattle.asl_causes.specs.declared.known.Known.{Known}
 
 -- each broken rule that is known, in the order in which the checker goes over them
 abbrev pub broken_rules : Known → List Finding
-broken_rules known = findings_of known.findings.items
+broken_rules known = findings_of known.facts.findings.items

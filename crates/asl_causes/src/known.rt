@@ -23,6 +23,12 @@ use std::alloc::Global;
 pub struct Known<'m> {
     machine: &'m Machine,
     declared: &'m Declared,
+    facts: Facts,
+}
+
+/// What a certificate tells of a machine.
+#[derive(Drop)]
+struct Facts {
     certificate: NumberedCertificate,
     flows: Flows,
     findings: Vec<Located>,
@@ -43,12 +49,15 @@ impl<'m> Known<'m> {
     {
         let findings = find_all(alloc, machine, declared, &mut certificate)?;
         let flows = Flows::find(alloc, machine, declared, &mut certificate)?;
-        Ok(Known {
-            machine,
-            declared,
+        let facts = Facts {
             certificate,
             flows,
             findings,
+        };
+        Ok(Known {
+            machine,
+            declared,
+            facts,
         })
     }
 
@@ -56,48 +65,70 @@ impl<'m> Known<'m> {
     pub fn has_findings(&self) -> bool
         ensures { IsTrue result ↔ broken_rules self.now ≢ [] }
     {
-        !self.findings.is_empty()
+        !self.facts.findings.is_empty()
     }
 
     /// Tells each rule that the certificate breaks in some lines, with an empty line between two of them: the line of the
     /// finding, what is known of the data with which it arises, the shortest way by which such data comes there, other
     /// origins from which it doesn't arise, an example, and what usually helps. What would be told in the same words twice
     /// is told once. Refuses only where an allocation was refused.
-    pub fn findings_text(mut self, alloc: Global) -> Result<String, OutOfMemory> {
-        let explainer = Explainer {
-            alloc,
-            machine: self.machine,
-            declared: self.declared,
-            states: &self.certificate.states,
-            flows: &self.flows,
-        };
-        let mut text = String::new(alloc);
-        let mut walks = Walks::new(alloc);
-        for (number, located) in self.findings.iter().enumerate() {
-            if is_repeated(&self.findings, number) {
-                continue;
-            }
-            if !text.is_empty() {
-                text.push_str("\n")?;
-            }
-            let shapes = &mut self.certificate.shapes;
-            explainer.push_finding(shapes, &mut walks, &mut text, located)?;
-        }
-        Ok(text)
+    pub fn findings_text(self, alloc: Global) -> Result<String, OutOfMemory> {
+        text_of_findings(alloc, self.machine, self.declared, self.facts)
     }
 
     /// Tells what comes to the state of that number, its shapes, and its findings, in some lines. Refuses only where an
     /// allocation was refused.
-    pub fn state_text(mut self, alloc: Global, state: usize) -> Result<String, OutOfMemory> {
-        let explainer = Explainer {
-            alloc,
-            machine: self.machine,
-            declared: self.declared,
-            states: &self.certificate.states,
-            flows: &self.flows,
-        };
-        explainer.about_state(&mut self.certificate.shapes, &self.findings, state)
+    pub fn state_text(self, alloc: Global, state: usize) -> Result<String, OutOfMemory> {
+        text_of_state(alloc, self.machine, self.declared, self.facts, state)
     }
+}
+
+/// Tells each broken rule, with an empty line between two of them.
+fn text_of_findings(
+    alloc: Global,
+    machine: &Machine,
+    declared: &Declared,
+    mut facts: Facts,
+) -> Result<String, OutOfMemory> {
+    let explainer = Explainer {
+        alloc,
+        machine,
+        declared,
+        states: &facts.certificate.states,
+        flows: &facts.flows,
+    };
+    let mut text = String::new(alloc);
+    let mut walks = Walks::new(alloc);
+    for (number, located) in facts.findings.iter().enumerate() {
+        if is_repeated(&facts.findings, number) {
+            continue;
+        }
+        if !text.is_empty() {
+            text.push_str("\n")?;
+        }
+        let shapes = &mut facts.certificate.shapes;
+        explainer.push_finding(shapes, &mut walks, &mut text, located)?;
+    }
+    Ok(text)
+}
+
+/// Tells what is known of the state of that number.
+fn text_of_state(
+    alloc: Global,
+    machine: &Machine,
+    declared: &Declared,
+    mut facts: Facts,
+    state: usize,
+) -> Result<String, OutOfMemory> {
+    let explainer = Explainer {
+        alloc,
+        machine,
+        declared,
+        states: &facts.certificate.states,
+        flows: &facts.flows,
+    };
+    let shapes = &mut facts.certificate.shapes;
+    explainer.about_state(shapes, &facts.findings, state)
 }
 
 /// Tells findings of which nothing else is known, each with its example and what generally helps. Refuses only where an
