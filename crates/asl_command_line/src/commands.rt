@@ -144,6 +144,37 @@ For bash: asl completions bash > ~/.local/share/bash-completion/completions/asl
 For zsh, with ~/.zfunc in $fpath: asl completions zsh > ~/.zfunc/_asl
 For fish: asl completions fish > ~/.config/fish/completions/asl.fish";
 
+/// The names of the commands.
+#[derive(Clone, Copy)]
+enum CommandName {
+    Check,
+    Infer,
+    Verify,
+    Run,
+    Lint,
+    Explain,
+    Declare,
+    Shape,
+    Test,
+    Graph,
+    Completions,
+}
+
+/// All of them, in the order in which help has them.
+const COMMANDS: [CommandName; 11] = [
+    CommandName::Check,
+    CommandName::Infer,
+    CommandName::Verify,
+    CommandName::Run,
+    CommandName::Lint,
+    CommandName::Explain,
+    CommandName::Declare,
+    CommandName::Shape,
+    CommandName::Test,
+    CommandName::Graph,
+    CommandName::Completions,
+];
+
 /// The command line of the program.
 pub(crate) fn program<'a>(alloc: Global) -> Result<Command<'a>, AllocError> {
     let program = Command::new(alloc, "asl")
@@ -169,19 +200,28 @@ pub(crate) fn command_named<'a>(
 
 /// The commands, in the order in which help has them.
 fn commands<'a>(alloc: Global) -> Result<Vec<Command<'a>>, AllocError> {
-    Ok(vec![in alloc;
-        check_command(alloc)?,
-        infer_command(alloc)?,
-        verify_command(alloc)?,
-        run_command(alloc)?,
-        lint_command(alloc)?,
-        explain_command(alloc)?,
-        declare_command(alloc)?,
-        shape_command(alloc)?,
-        test_command(alloc)?,
-        graph_command(alloc)?,
-        completions_command(alloc)?,
-    ]?)
+    let mut commands = Vec::new(alloc);
+    for name in &COMMANDS {
+        commands.push(command(alloc, *name)?)?;
+    }
+    Ok(commands)
+}
+
+/// The command of that name.
+fn command<'a>(alloc: Global, name: CommandName) -> Result<Command<'a>, AllocError> {
+    match name {
+        CommandName::Check => check_command(alloc),
+        CommandName::Infer => infer_command(alloc),
+        CommandName::Verify => verify_command(alloc),
+        CommandName::Run => run_command(alloc),
+        CommandName::Lint => lint_command(alloc),
+        CommandName::Explain => explain_command(alloc),
+        CommandName::Declare => declare_command(alloc),
+        CommandName::Shape => shape_command(alloc),
+        CommandName::Test => test_command(alloc),
+        CommandName::Graph => graph_command(alloc),
+        CommandName::Completions => completions_command(alloc),
+    }
 }
 
 /// The command `check`.

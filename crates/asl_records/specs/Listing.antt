@@ -1,4 +1,4 @@
--- How the shapes of a certificate are listed by their numbers. No public clause cites this module.
+-- How the shapes of a certificate are listed by their numbers.
 use Rattle.std.specs.Prelude.{◌≡◌, ◌<◌, ℕ, List, [], ◌∷◌, ◌++◌, length, map, get_or, set, Bool, if◌then◌else◌, Option, Some, None, IfSome}
 use Rattle.std.specs.List.{AllByRecursion}
 use Rattle.asl_model.specs.Shape.{Shape, IsProperShape}

@@ -1,4 +1,4 @@
--- What is written over a list of shapes, part by part. No public clause cites this module.
+-- What is written over a list of shapes, part by part.
 use Rattle.std.specs.Prelude.{◌<◌, ℕ, List}
 use Rattle.asl_model.specs.Shape.{Shape}
 use Rattle.asl_model.specs.Tree.{Tree}
@@ -7,18 +7,18 @@ use Rattle.asl_numbered.specs.Expansion.{expansions, shape_at, numbers_in, AreBe
 use Rattle.asl_numbered.specs.declared.kinds.NodeArrays.{NodeArrays}
 use Rattle.asl_numbered.specs.declared.kinds.NodeObjects.{NodeObjects}
 use Rattle.asl_records.specs.Listing.{IsPlaced, listed_shapes}
-use Rattle.asl_records.specs.declared.writing_numbered.Writer.{Writer}
+use Rattle.asl_records.specs.declared.writing_numbered.ShapeWriter.{ShapeWriter}
 
 -- the shapes of the table
-abbrev pub table_of : Writer → List Shape
+abbrev pub table_of : ShapeWriter → List Shape
 table_of writer = expansions writer.shapes.now
 
 -- those that are listed
-abbrev pub listed_by : Writer → List Shape
+abbrev pub listed_by : ShapeWriter → List Shape
 listed_by writer = listed_shapes writer.shapes.now writer.listing.now
 
 -- each number of the table has the place of its shape in the list
-pub record IsReady (writer : Writer) : Type 0 where
+pub record IsReady (writer : ShapeWriter) : Type 0 where
   pub placed : IsPlaced writer.shapes.now writer.listing.now
 
 -- the numbers in arrays that are lent are below that bound, and those in objects
@@ -30,12 +30,12 @@ pub record ObjectsAreBelow (bound : ℕ) (objects : NodeObjects) : Type 0 where
   pub fields : AreBelow bound (numbers_in objects.fields.now.entries)
 
 -- what is written for a shape, and for one of the list
-abbrev pub referred : Writer → Shape → Tree
+abbrev pub referred : ShapeWriter → Shape → Tree
 referred writer = referring (listed_by writer)
 
-abbrev pub spelled_over : Writer → Shape → Tree
+abbrev pub spelled_over : ShapeWriter → Shape → Tree
 spelled_over writer = written_over (listed_by writer)
 
 -- what is written for the shape of that number
-abbrev pub referred_at : Writer → ℕ → Tree
+abbrev pub referred_at : ShapeWriter → ℕ → Tree
 referred_at writer n = referred writer (shape_at (table_of writer) n)

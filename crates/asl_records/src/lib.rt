@@ -26,10 +26,11 @@ mod writing_numbered;
 
 pub use certificates::{read_certificate, read_numbered};
 pub use declarations::read_declared;
+pub use listing::Listing;
 pub use numbering::{expand_certificate, number_certificate};
 pub use records::{
     Certificate, Declared, NumberedCertificate, StateNumbers, StateShapes, TaskShapes,
 };
 pub use refusals::{ReadFault, RecordFault, RecordRefusal};
 pub use writing::{write_certificate, write_declared};
-pub use writing_numbered::write_numbered;
+pub use writing_numbered::{ShapeWriter, write_numbered};

@@ -29,7 +29,7 @@ pub(crate) enum Task {
 
 /// Shapes of a table that are listed, each under its number.
 #[derive(Drop)]
-pub(crate) struct Listing {
+pub struct Listing {
     alloc: Global,
     /// The numbers, in order.
     pub(crate) order: Vec<usize>,
@@ -38,11 +38,9 @@ pub(crate) struct Listing {
 }
 
 impl Listing {
-    /// The list of the certificate's shapes.
-    pub(crate) fn of(
-        alloc: Global,
-        certificate: &NumberedCertificate,
-    ) -> Result<Listing, OutOfMemory>
+    /// The list of the certificate's shapes: each distinct one of lists, of objects or of several kinds, behind its parts.
+    /// Refuses only where an allocation was refused.
+    pub fn of(alloc: Global, certificate: &NumberedCertificate) -> Result<Listing, OutOfMemory>
         requires within { AreWithin certificate.now }
         ensures listing { IfOk result (IsListing certificate.now.shapes) }
         ensures listed { IfOk result (λ listing.
@@ -58,8 +56,8 @@ impl Listing {
         Ok(listing)
     }
 
-    /// The list without any shape of the table.
-    fn new(alloc: Global, shapes: &Shapes) -> Result<Listing, OutOfMemory>
+    /// The list without any shape of the table. Refuses only where an allocation was refused.
+    pub fn new(alloc: Global, shapes: &Shapes) -> Result<Listing, OutOfMemory>
         ensures listing { IfOk result (IsListing shapes.now) }
         ensures none { IfOk result (λ listing. listed_shapes shapes.now listing ≡ []) }
     {

@@ -46,7 +46,7 @@ pub fn write_numbered(alloc: Global, certificate: &NumberedCertificate) -> Resul
     certificate.shapes.are_proper();
     written_records_are_read_back();
     let listing = Listing::of(alloc, certificate)?;
-    let writer = Writer {
+    let writer = ShapeWriter {
         alloc,
         shapes: &certificate.shapes,
         listing: &listing,
@@ -60,15 +60,34 @@ pub fn write_numbered(alloc: Global, certificate: &NumberedCertificate) -> Resul
     Ok(Tree::Object(fields))
 }
 
-/// Writes the parts of a certificate over the list of its shapes.
+/// Writes the shapes of a table, and the parts of a certificate, over a list of its shapes.
 #[derive(Clone, Copy)]
-pub(crate) struct Writer<'c> {
+pub struct ShapeWriter<'c> {
     alloc: Global,
     shapes: &'c Shapes,
     listing: &'c Listing,
 }
 
-impl Writer<'_> {
+impl<'c> ShapeWriter<'c> {
+    /// What writes the shapes of that table over that list of them.
+    pub fn new(alloc: Global, shapes: &'c Shapes, listing: &'c Listing) -> ShapeWriter<'c>
+        ensures shapes { result.shapes.now ≡ shapes.now }
+        ensures listing { result.listing.now ≡ listing.now }
+    {
+        ShapeWriter {
+            alloc,
+            shapes,
+            listing,
+        }
+    }
+
+    /// The numbers of the listed shapes, in order.
+    pub fn listed(&self) -> &[usize]
+        ensures { result.now ≡ self.now.listing.now.order.items }
+    {
+        &self.listing.order
+    }
+
     /// The entries of the states.
     fn write_states(
         &self,
@@ -154,8 +173,9 @@ impl Writer<'_> {
         Ok(elements)
     }
 
-    /// A shape with its parts as references.
-    fn write_over(&self, number: usize) -> Result<Tree, OutOfMemory>
+    /// The tree of the shape of that number as the list has it: each part that is listed is a reference. Refuses only where
+    /// an allocation was refused.
+    pub fn write_over(&self, number: usize) -> Result<Tree, OutOfMemory>
         requires ready { IsReady self.now }
         requires below { number < length self.now.shapes.now }
         ensures written { IfOk result (λ t. trees.view t
@@ -276,8 +296,9 @@ impl Writer<'_> {
         Ok(elements)
     }
 
-    /// What stands for a shape: a reference, where it is listed, or else the tree that spells it.
-    fn refer(&self, number: usize) -> Result<Tree, OutOfMemory>
+    /// What stands for the shape of that number: a reference, where it is listed, or else the tree that spells it. Refuses
+    /// only where an allocation was refused.
+    pub fn refer(&self, number: usize) -> Result<Tree, OutOfMemory>
         requires ready { IsReady self.now }
         requires below { number < length self.now.shapes.now }
         ensures written { IfOk result (λ t. trees.view t ≡ referred_at self.now number) }

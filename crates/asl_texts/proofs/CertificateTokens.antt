@@ -1,29 +1,31 @@
 -- What is written of a certificate reads back where each of its parts does.
-use Rattle.std.proofs.Common.{◌≡◌, ℕ, pos, List, [], ◌∷◌, ◌++◌, Bool, true, false, if◌then◌else◌, Option, Some, None, option_map, option_and_then, Bor, map, codes, string_bytes, string_cmp, refl, sym, ap, ◌∙◌, subst, append_assoc, append-nil, arith}
+use Rattle.std.proofs.Common.{◌≡◌, ◌≤◌, ℕ, pos, List, [], ◌∷◌, ◌++◌, Bool, true, false, if◌then◌else◌, Option, Some, None, option_map, option_and_then, map, codes, string_bytes, string_cmp, refl, sym, ap, ◌∙◌, subst, append_assoc, append-nil, arith}
 use Rattle.std.specs.List.Sorted.{IsStrictlySortedBy}
 use Rattle.std.specs.Map.{keys_of}
 use Rattle.serde_json.specs.Data as json
-use Rattle.serde_json.specs.Read.{of_items, of_members}
+use Rattle.serde_json.specs.Read.{max_depth, of_items, of_members}
 use Rattle.serde_json.specs.Written.{items_outline, members_outline}
 use Rattle.asl_model.specs.Certificate.{Certificate}
-use Rattle.asl_model.specs.Json.{ReadsAsTree, elements_of, members_of, value_of, items_of, members_for}
+use Rattle.asl_model.specs.Json.{ReadsAsTree, tree_of, elements_of, members_of, value_of, items_of, members_for}
+use Rattle.asl_model.specs.RecordShapes.{HoldsForCertificate}
+use Rattle.asl_model.specs.Records.{StandsForCertificate}
 use Rattle.asl_model.specs.Shape.{Shape, IsProperShape}
 use Rattle.asl_model.specs.Texts.{ReadsAsCertificate}
 use Rattle.asl_model.specs.Tree.{Tree, Integer, Array, Object, Fields, NoFields, AndField}
-use Rattle.asl_model.specs.Written.{written_shape, written_list, written_entries, with_branches, with_item, written_state, certificate_has_several, version_of, written_certificate}
-use Rattle.asl_model.proofs.RecordsBack.{proper_certificate_back}
-use Rattle.asl_numbered.specs.Expansion.{expansions, shape_at}
-use Rattle.asl_numbered.specs.declared.shapes.Shapes.{Shapes}
-use Rattle.asl_records.specs.Numbered.{numbered_entries, numbered_view}
-use Rattle.asl_records.specs.declared.records.NumberedCertificate.{NumberedCertificate}
+use Rattle.asl_model.specs.Written.{written_list, written_entries, with_branches, with_item, with_listed, written_state, certificate_has_several, certificate_written, version_of, written_certificate}
+use Rattle.asl_model.specs.WrittenNumbered.{referring, written_over, written_numbered}
+use Rattle.asl_numbered.specs.Expansion.{shape_at}
+use Rattle.asl_records.specs.Numbered.{numbered_entries}
+use Rattle.asl_records.specs.WritingNumbered.{table_of, listed_by, referred, referred_at, spelled_over}
 use Rattle.asl_records.specs.declared.records.StateNumbers.{StateNumbers}
+use Rattle.asl_records.specs.declared.writing_numbered.ShapeWriter.{ShapeWriter}
 use Rattle.asl_records.proofs.Kept.{Entry}
-use Rattle.asl_records.proofs.References.{certificate_proper}
 use Rattle.asl_tree.specs.Written.{ReadsBack}
 use Rattle.asl_tree.proofs.Texts.{after_first}
 use Rattle.asl_tree.proofs.Tokens.{integer_back}
-use Rattle.asl_texts.specs.CertificateTokens.{shape_tree, shapes_in, state_tree, NumbersReadBack, ItemReadsBack, StatesReadBack, StaysKept}
-use Rattle.asl_texts.specs.declared.spellings.Spellings.{Spellings}
+use Rattle.asl_texts.specs.CertificateText.{IsShallow, written_as}
+use Rattle.asl_texts.specs.CertificateTokens.{certificate_tree, listed_if, state_tree, NumbersReadBack, ItemReadsBack, StatesReadBack}
+use Rattle.asl_texts.proofs.NumberedNesting.{numbered_nests}
 
 -- ---- objects whose names come in order
 
@@ -43,55 +45,58 @@ branches_back branches input output b i o = record { value = rw (b.value, i.valu
 four_back : (branches input item output : Tree) → ReadsBack branches → ReadsBack input → ReadsBack item → ReadsBack output → ReadsBack (Object (AndField (codes "branches") branches (AndField (codes "input") input (AndField (codes "item") item (AndField (codes "output") output NoFields)))))
 four_back branches input item output b i m o = record { value = rw (b.value, i.value, m.value, o.value) refl; tree = rw (b.tree, i.tree, m.tree, o.tree) refl }
 
--- a certificate
+-- a certificate that lists no shape
 whole_back : (output states version : Tree) → ReadsBack output → ReadsBack states → ReadsBack version → ReadsBack (Object (AndField (codes "output") output (AndField (codes "states") states (AndField (codes "version") version NoFields))))
 whole_back output states version o s v = record { value = rw (o.value, s.value, v.value) refl; tree = rw (o.tree, s.tree, v.tree) refl }
 
--- the table stays the same while its shapes are written
-pub shapes_stay : (before after : Spellings) → StaysKept before after → shapes_in after ≡ shapes_in before
-shapes_stay before after stays = ap (λ (s : Bor Shapes). expansions s.now) stays.shapes
+-- one that lists some
+listed_back : (output shapes states version : Tree) → ReadsBack output → ReadsBack shapes → ReadsBack states → ReadsBack version → ReadsBack (Object (AndField (codes "output") output (AndField (codes "shapes") shapes (AndField (codes "states") states (AndField (codes "version") version NoFields)))))
+listed_back output shapes states version o l s v = record { value = rw (o.value, l.value, s.value, v.value) refl; tree = rw (o.tree, l.tree, s.tree, v.tree) refl }
 
-module _ (table : List Shape) where
+module _ (shapes : ShapeWriter) where
+  abbrev table : List Shape
+  table = table_of shapes
+
   -- the values of a list of shapes
-  items_back : (ns : List ℕ) → NumbersReadBack table ns → of_items (items_outline (items_of (written_list written_shape (map (shape_at table) ns)))) ≡ Some (items_of (written_list written_shape (map (shape_at table) ns)))
-  items_back [] h = refl
-  items_back (n ∷ ns) h = rw (h.each.0.value, items_back ns (record { each = h.each.1 })) refl
+  items_back : (written : Shape → Tree) (ns : List ℕ) → NumbersReadBack written shapes ns → of_items (items_outline (items_of (written_list written (map (shape_at table) ns)))) ≡ Some (items_of (written_list written (map (shape_at table) ns)))
+  items_back written [] h = refl
+  items_back written (n ∷ ns) h = rw (h.each.0.value, items_back written ns (record { each = h.each.1 })) refl
 
   -- its trees
-  elements_back : (ns : List ℕ) → NumbersReadBack table ns → elements_of (items_of (written_list written_shape (map (shape_at table) ns))) ≡ Some (written_list written_shape (map (shape_at table) ns))
-  elements_back [] h = refl
-  elements_back (n ∷ ns) h = rw (h.each.0.tree, elements_back ns (record { each = h.each.1 })) refl
+  elements_back : (written : Shape → Tree) (ns : List ℕ) → NumbersReadBack written shapes ns → elements_of (items_of (written_list written (map (shape_at table) ns))) ≡ Some (written_list written (map (shape_at table) ns))
+  elements_back written [] h = refl
+  elements_back written (n ∷ ns) h = rw (h.each.0.tree, elements_back written ns (record { each = h.each.1 })) refl
 
   -- the list
-  list_back : (ns : List ℕ) → NumbersReadBack table ns → ReadsBack (Array (written_list written_shape (map (shape_at table) ns)))
-  list_back ns h = record { value = ap (option_map json.array) (items_back ns h); tree = ap (option_map Array) (elements_back ns h) }
+  list_back : (written : Shape → Tree) (ns : List ℕ) → NumbersReadBack written shapes ns → ReadsBack (Array (written_list written (map (shape_at table) ns)))
+  list_back written ns h = record { value = ap (option_map json.array) (items_back written ns h); tree = ap (option_map Array) (elements_back written ns h) }
 
   -- the entry of a state
-  pub state_back : (state : StateNumbers) → NumbersReadBack table state.branches.items → ReadsBack (shape_tree table state.input) → ItemReadsBack table state.item → ReadsBack (shape_tree table state.output) → ReadsBack (state_tree table state)
+  pub state_back : (state : StateNumbers) → NumbersReadBack (referred shapes) shapes state.branches.items → ReadsBack (referred_at shapes state.input) → ItemReadsBack shapes state.item → ReadsBack (referred_at shapes state.output) → ReadsBack (state_tree shapes state)
   state_back state branches input item output = by state.branches.items state.item branches item
     where
       -- with those branches and that item
-      by : (ns : List ℕ) (item : Option ℕ) → NumbersReadBack table ns → ItemReadsBack table item
-          → ReadsBack (Object (with_branches written_shape (map (shape_at table) ns) (AndField (codes "input") (shape_tree table state.input) (with_item written_shape (option_map (shape_at table) item) (AndField (codes "output") (shape_tree table state.output) NoFields)))))
-      by [] None b i = two_back (shape_tree table state.input) (shape_tree table state.output) input output
-      by [] (Some m) b i = item_back (shape_tree table state.input) (shape_tree table m) (shape_tree table state.output) input i.back output
-      by (n ∷ ns) None b i = branches_back (Array (written_list written_shape (map (shape_at table) (n ∷ ns)))) (shape_tree table state.input) (shape_tree table state.output) (list_back (n ∷ ns) b) input output
-      by (n ∷ ns) (Some m) b i = four_back (Array (written_list written_shape (map (shape_at table) (n ∷ ns)))) (shape_tree table state.input) (shape_tree table m) (shape_tree table state.output) (list_back (n ∷ ns) b) input i.back output
+      by : (ns : List ℕ) (item : Option ℕ) → NumbersReadBack (referred shapes) shapes ns → ItemReadsBack shapes item
+          → ReadsBack (Object (with_branches (referred shapes) (map (shape_at table) ns) (AndField (codes "input") (referred_at shapes state.input) (with_item (referred shapes) (option_map (shape_at table) item) (AndField (codes "output") (referred_at shapes state.output) NoFields)))))
+      by [] None b i = two_back (referred_at shapes state.input) (referred_at shapes state.output) input output
+      by [] (Some m) b i = item_back (referred_at shapes state.input) (referred_at shapes m) (referred_at shapes state.output) input i.back output
+      by (n ∷ ns) None b i = branches_back (Array (written_list (referred shapes) (map (shape_at table) (n ∷ ns)))) (referred_at shapes state.input) (referred_at shapes state.output) (list_back (referred shapes) (n ∷ ns) b) input output
+      by (n ∷ ns) (Some m) b i = four_back (Array (written_list (referred shapes) (map (shape_at table) (n ∷ ns)))) (referred_at shapes state.input) (referred_at shapes m) (referred_at shapes state.output) (list_back (referred shapes) (n ∷ ns) b) input i.back output
 
   -- what is written of the states, each under its name
   abbrev entries : List Entry → Fields
-  entries es = written_entries (written_state written_shape) (numbered_entries table es)
+  entries es = written_entries (written_state (referred shapes)) (numbered_entries table es)
 
   -- a state whose name comes last goes last among the members
-  put_last : (done : List Entry) (e : Entry) (more : List Entry) → IsStrictlySortedBy string_cmp (keys_of (done ++ e ∷ more)) → json.put (string_bytes e.0) (value_of (state_tree table e.1)) (members_for (entries done)) ≡ members_for (entries (done ++ e ∷ []))
+  put_last : (done : List Entry) (e : Entry) (more : List Entry) → IsStrictlySortedBy string_cmp (keys_of (done ++ e ∷ more)) → json.put (string_bytes e.0) (value_of (state_tree shapes e.1)) (members_for (entries done)) ≡ members_for (entries (done ++ e ∷ []))
   unfolding IsStrictlySortedBy
   put_last [] e more h = refl
   put_last (first ∷ done) e more h =
       let above = after_first first done e more h.0 in
-      rw above (ap (json.member (string_bytes first.0) (value_of (state_tree table first.1))) (put_last done e more h.1))
+      rw above (ap (json.member (string_bytes first.0) (value_of (state_tree shapes first.1))) (put_last done e more h.1))
 
   -- the states that are left are put behind those before them
-  members_back : (done left : List Entry) → IsStrictlySortedBy string_cmp (keys_of (done ++ left)) → StatesReadBack table left → of_members (members_outline (members_for (entries left))) (members_for (entries done)) ≡ Some (members_for (entries (done ++ left)))
+  members_back : (done left : List Entry) → IsStrictlySortedBy string_cmp (keys_of (done ++ left)) → StatesReadBack shapes left → of_members (members_outline (members_for (entries left))) (members_for (entries done)) ≡ Some (members_for (entries (done ++ left)))
   members_back done [] sorted h = ap (λ es. Some (members_for (entries es))) (sym (append-nil done))
   members_back done (e ∷ left) sorted h =
       let split = append_assoc done (e ∷ []) left in
@@ -101,13 +106,13 @@ module _ (table : List Shape) where
       ∙ ap (λ es. Some (members_for (entries es))) split
 
   -- their trees
-  fields_back : (es : List Entry) → StatesReadBack table es → members_of (members_for (entries es)) ≡ Some (entries es)
+  fields_back : (es : List Entry) → StatesReadBack shapes es → members_of (members_for (entries es)) ≡ Some (entries es)
   fields_back [] h = refl
   fields_back (e ∷ es) h =
-      ap (option_and_then (λ t. option_map (AndField (string_bytes e.0) t) (members_of (members_for (entries es))))) h.each.0.tree ∙ ap (option_map (AndField (string_bytes e.0) (state_tree table e.1))) (fields_back es (record { each = h.each.1 }))
+      ap (option_and_then (λ t. option_map (AndField (string_bytes e.0) t) (members_of (members_for (entries es))))) h.each.0.tree ∙ ap (option_map (AndField (string_bytes e.0) (state_tree shapes e.1))) (fields_back es (record { each = h.each.1 }))
 
   -- the object of the states
-  states_back : (es : List Entry) → IsStrictlySortedBy string_cmp (keys_of es) → StatesReadBack table es → ReadsBack (Object (entries es))
+  states_back : (es : List Entry) → IsStrictlySortedBy string_cmp (keys_of es) → StatesReadBack shapes es → ReadsBack (Object (entries es))
   states_back es sorted h = record { value = ap (option_map json.object) (members_back [] es sorted h); tree = ap (option_map Object) (fields_back es h) }
 
   -- the version
@@ -118,13 +123,37 @@ module _ (table : List Shape) where
       by true = integer_back (pos 2) (omega arith)
       by false = integer_back (pos 1) (omega arith)
 
-  -- the whole certificate
-  pub certificate_back : (output : ℕ) (states : List Entry) → ReadsBack (shape_tree table output) → IsStrictlySortedBy string_cmp (keys_of states) → StatesReadBack table states → ReadsBack (written_certificate (record { output = shape_at table output; states = numbered_entries table states }))
-  certificate_back output states first sorted h =
-      let certificate : Certificate = record { output = shape_at table output; states = numbered_entries table states } in
-      whole_back (shape_tree table output) (Object (entries states)) (Integer (pos (version_of certificate))) first (states_back states sorted h) (version_back certificate)
+  -- the whole certificate, whatever is listed
+  pub certificate_back : (output : ℕ) (states : List Entry) → ReadsBack (referred_at shapes output) → NumbersReadBack (spelled_over shapes) shapes shapes.listing.now.order.items → IsStrictlySortedBy string_cmp (keys_of states) → StatesReadBack shapes states → ReadsBack (certificate_tree shapes (record { output = shape_at table output; states = numbered_entries table states }))
+  certificate_back output states first listed sorted h = by shapes.listing.now.order.items listed
+    where
+      certificate : Certificate
+      certificate = record { output = shape_at table output; states = numbered_entries table states }
 
--- a text that reads as the tree of a certificate reads as the certificate
-pub reads_as_certificate : (certificate : NumberedCertificate) (text : List ℕ) → ((n : ℕ) → IsProperShape (shape_at (expansions certificate.shapes) n)) → ReadsAsTree text (written_certificate (numbered_view certificate)) → ReadsAsCertificate text (numbered_view certificate)
-reads_as_certificate certificate text proper read =
-    record { value = read.0; reads = read.1; stands = proper_certificate_back read.0 (numbered_view certificate) (certificate_proper certificate proper) read.2 }
+      by : (ns : List ℕ) → NumbersReadBack (spelled_over shapes) shapes ns
+          → ReadsBack (Object (AndField (codes "output") (referred_at shapes output) (with_listed (spelled_over shapes) (map (shape_at table) ns) (AndField (codes "states") (Object (entries states)) (AndField (codes "version") (Integer (pos (version_of certificate))) NoFields)))))
+      by [] l = whole_back (referred_at shapes output) (Object (entries states)) (Integer (pos (version_of certificate))) first (states_back states sorted h) (version_back certificate)
+      by (n ∷ ns) l = listed_back (referred_at shapes output) (Array (written_list (spelled_over shapes) (map (shape_at table) (n ∷ ns)))) (Object (entries states)) (Integer (pos (version_of certificate))) first (list_back (spelled_over shapes) (n ∷ ns) l) (states_back states sorted h) (version_back certificate)
+
+-- ---- the text
+
+-- the tree is what is asked
+pub as_asked : (shapes : ShapeWriter) (numbered : Bool) (certificate : Certificate) → listed_by shapes ≡ listed_if numbered certificate → certificate_tree shapes certificate ≡ written_as numbered certificate
+as_asked shapes numbered certificate same = ap (λ (listed : List Shape). certificate_written (written_over listed) listed (referring listed) certificate) same ∙ by numbered
+  where
+    by : (numbered : Bool) → certificate_written (written_over (listed_if numbered certificate)) (listed_if numbered certificate) (referring (listed_if numbered certificate)) certificate ≡ written_as numbered certificate
+    by true = refl
+    by false = refl
+
+-- it nests no deeper than JSON is read
+pub asked_is_shallow : (numbered : Bool) (certificate : Certificate) → HoldsForCertificate IsProperShape certificate → IsShallow certificate → json.depth (value_of (written_as numbered certificate)) ≤ max_depth
+asked_is_shallow true certificate proper shallow = numbered_nests certificate proper
+asked_is_shallow false certificate proper shallow = shallow
+
+-- a text that reads as it reads as the certificate
+pub reads_as_certificate : (numbered : Bool) (certificate : Certificate) (text : List ℕ)
+    → ((v : json.Data) → tree_of v ≡ Some (written_certificate certificate) → StandsForCertificate v certificate)
+    → ((v : json.Data) → tree_of v ≡ Some (written_numbered certificate) → StandsForCertificate v certificate)
+    → ReadsAsTree text (written_as numbered certificate) → ReadsAsCertificate text certificate
+reads_as_certificate true certificate text spelled listed read = record { value = read.0; reads = read.1; stands = listed read.0 read.2 }
+reads_as_certificate false certificate text spelled listed read = record { value = read.0; reads = read.1; stands = spelled read.0 read.2 }

@@ -1,17 +1,13 @@
 -- How deep what is written nests of a certificate that lists its shapes: by six levels at most.
-use Rattle.std.proofs.Common.{◌≡◌, ◌≤◌, ℕ, pos, List, [], ◌∷◌, ◌++◌, not, Option, Some, None, option_map, unwrap_or, codes, refl, sym, subst, ◌∙◌, append_assoc, arith, Result, Ok, Err, String, Global, string_bytes}
-use Rattle.std.specs.Prelude.{IfOk, IfSome}
+use Rattle.std.proofs.Common.{◌≡◌, ◌≤◌, ℕ, pos, List, [], ◌∷◌, ◌++◌, not, Option, Some, None, option_map, unwrap_or, codes, refl, sym, subst, ◌∙◌, append_assoc, arith}
+use Rattle.std.specs.Prelude.{IfSome}
 use Rattle.std.specs.List.{AllByRecursion}
-use Rattle.serde_json.specs.Data as json
 use Rattle.serde_json.specs.Read.{max_depth}
 use Rattle.asl_model.specs.Certificate.{StateShapes, Certificate}
-use Rattle.asl_model.specs.Json.{ReadsAsTree, tree_of}
 use Rattle.asl_model.specs.RecordShapes.{HoldsForState, HoldsForCertificate}
-use Rattle.asl_model.specs.Records.{StandsForCertificate}
 use Rattle.asl_model.specs.Shape.{Shape, Any, OfKinds, Arrays, WithoutArrays, ArraysOf, Objects, WithoutObjects, ObjectsOf, Shapes, NoShapes, AndShape, FieldShapes, NoFieldShapes, AndFieldShape, IsProperShape, type_names}
 use Rattle.asl_model.specs.ShapeFlow.{how_many_shapes}
 use Rattle.asl_model.specs.ShapeOrder.{is_any_shape}
-use Rattle.asl_model.specs.Texts.{ReadsAsCertificate}
 use Rattle.asl_model.specs.Tree.{Tree, Integer, Object, Fields, NoFields, AndField}
 use Rattle.asl_model.specs.Written.{some_shapes, some_fields, needed_names, some_names, are_closed, written_shape, written_list, written_entries, with_branches, with_item, with_listed, written_state, version_of}
 use Rattle.asl_model.specs.WrittenNumbered.{place_of, reference, referring, places_referring, fields_referring, with_arrays_over, with_objects_over, written_over, written_numbered, shapes_listed}
@@ -106,10 +102,3 @@ numbered_nests certificate proper =
     let states = AndField (codes "states") (Object (written_entries (written_state (referring listed)) certificate.states)) (AndField (codes "version") (Integer (pos (version_of certificate))) NoFields) in
     let each = listed_nest listed [] listed refl is.behind in
     omega (arith, there_nests listed certificate.output is.there.output, shapes_nest listed states is.behind (omega (arith, states_nest listed certificate.states is.there.states)) listed each)
-
--- a text that reads as what is written, where that doesn't nest too deep, reads as the certificate
-pub numbered_reads : {E : Type 0} (certificate : Certificate) (t : Tree) (r : Result (String Global) E) → HoldsForCertificate IsProperShape certificate → t ≡ written_numbered certificate → ((v : json.Data) → tree_of v ≡ Some t → StandsForCertificate v certificate) → IfOk r (λ text. nesting t ≤ max_depth → ReadsAsTree (string_bytes text) t) → IfOk r (λ text. ReadsAsCertificate (string_bytes text) certificate)
-numbered_reads certificate t (Ok text) proper written stands reads =
-    let read = reads (subst (λ u. nesting u ≤ max_depth) (sym written) (numbered_nests certificate proper)) in
-    record { value = read.0; reads = read.1; stands = stands read.0 read.2 }
-numbered_reads certificate t (Err e) proper written stands reads = tt

@@ -1,23 +1,24 @@
 //! The text of a certificate, written as it goes.
 
-ghost use Rattle.std.specs.Prelude.{◌≡◌, ◌<◌, ◌≤◌, ◌∷◌, ◌++◌, IfOk, IfSome, OnOk, length, string_bytes};
+ghost use Rattle.std.specs.Prelude.{◌≡◌, ◌<◌, ◌∷◌, ◌++◌, IfOk, IfSome, OnOk, length, string_bytes};
 ghost use Rattle.std.specs.List.Sorted.{IsStrictlySortedBy};
 ghost use Rattle.std.specs.Map.{keys_of};
 ghost use Rattle.std.specs.String.{string_cmp};
 ghost use Rattle.json.specs.Token.{begin_array, begin_object};
 ghost use Rattle.asl_model.specs.Json.{compact_text};
 ghost use Rattle.asl_model.specs.Texts.{ReadsAsCertificate};
-ghost use Rattle.asl_model.specs.Written.{written_certificate};
-ghost use Rattle.asl_model.specs.WrittenNumbered.{written_numbered};
 ghost use Rattle.asl_numbered.specs.Expansion.{AreBelow};
+ghost use Rattle.asl_records.specs.Listing.{IsListing, listed_shapes};
 ghost use Rattle.asl_records.specs.Numbered.{AreWithin, AreNumbersBelow, AreEntriesBelow, numbered_view};
+ghost use Rattle.asl_records.specs.WritingNumbered.{IsReady, referred, spelled_over};
 ghost use Rattle.asl_tree.specs.Written.{tree_tokens, ReadsBack};
 ghost use Rattle.asl_texts.specs.CertificateText.{IsShallow, written_as};
-ghost use Rattle.asl_texts.specs.CertificateTokens.{IsKept, StaysKept, NumbersReadBack, ItemReadsBack, StatesReadBack, branches_tokens, item_tokens, list_tokens, shapes_in, state_tree, states_tokens};
+ghost use Rattle.asl_texts.specs.CertificateTokens.{IsKept, StaysKept, NumbersReadBack, ItemReadsBack, StatesReadBack, branches_tokens, certificate_tree, item_tokens, list_tokens, listed_if, listed_tokens, state_tree, states_tokens};
 
 use crate::spellings::Spellings;
-use asl_records::{NumberedCertificate, StateNumbers, write_numbered};
-use asl_tree::{OutOfMemory, to_text};
+use asl_model::reading_laws::written_records_are_read_back;
+use asl_records::{Listing, NumberedCertificate, ShapeWriter, StateNumbers};
+use asl_tree::OutOfMemory;
 use json::Writer;
 use std::alloc::Global;
 use std::collections::BTreeMap;
@@ -26,6 +27,8 @@ use std::collections::BTreeMap;
 /// listed once in it, in `shapes`, and stands everywhere as a reference; otherwise each shape is spelled out wherever it
 /// stands. It reads as the certificate, unless this one spelled out nests deeper than JSON is read. Refuses only where an
 /// allocation was refused.
+///
+/// The tree of a shape is made where it is written, and let go before another one.
 pub fn text_of_certificate(
     alloc: Global,
     certificate: &NumberedCertificate,
@@ -37,66 +40,95 @@ pub fn text_of_certificate(
     ensures reads_back { IfOk result (λ text. IsShallow (numbered_view certificate.now)
         → ReadsAsCertificate (string_bytes text) (numbered_view certificate.now)) }
 {
-    if numbered {
-        numbered_text(alloc, certificate)
-    } else {
-        plain_text(alloc, certificate)
-    }
-}
-
-/// The one with a list of its shapes.
-fn numbered_text(alloc: Global, certificate: &NumberedCertificate) -> Result<String, OutOfMemory>
-    requires { AreWithin certificate.now }
-    ensures text { IfOk result (λ text. string_bytes text
-        ≡ compact_text (written_numbered (numbered_view certificate.now))) }
-    ensures reads_back { IfOk result
-        (λ text. ReadsAsCertificate (string_bytes text) (numbered_view certificate.now)) }
-{
     certificate.shapes.are_proper();
-    let tree = write_numbered(alloc, certificate)?;
-    to_text(alloc, &tree)
-}
-
-/// The compact text of what is written of a certificate that lists none of its shapes. A shape of the table is spelled out
-/// where it is to be written, and let go before another one.
-fn plain_text(alloc: Global, certificate: &NumberedCertificate) -> Result<String, OutOfMemory>
-    requires within { AreWithin certificate.now }
-    ensures text { IfOk result (λ text. string_bytes text
-        ≡ compact_text (written_certificate (numbered_view certificate.now))) }
-    ensures reads_back { IfOk result (λ text. IsShallow (numbered_view certificate.now)
-        → ReadsAsCertificate (string_bytes text) (numbered_view certificate.now)) }
-{
-    certificate.shapes.are_proper();
+    written_records_are_read_back();
+    let listing = list_shapes(alloc, certificate, numbered)?;
+    let shapes = ShapeWriter::new(alloc, &certificate.shapes, &listing);
     let mut writer = Writer::new(Vec::new(alloc));
-    write_certificate(alloc, &mut writer, certificate)?;
+    write_certificate(&mut writer, shapes, certificate)?;
     let Ok(text) = String::from_utf8(writer.into_inner()) else {
         unreachable!()
     };
     Ok(text)
 }
 
+/// The list of the certificate's shapes, where one is asked, or one without any of them.
+fn list_shapes(
+    alloc: Global,
+    certificate: &NumberedCertificate,
+    numbered: bool,
+) -> Result<Listing, OutOfMemory>
+    requires within { AreWithin certificate.now }
+    ensures listing { IfOk result (IsListing certificate.now.shapes) }
+    ensures listed { IfOk result (λ listing. listed_shapes certificate.now.shapes listing
+        ≡ listed_if numbered (numbered_view certificate.now)) }
+{
+    if numbered {
+        Listing::of(alloc, certificate)
+    } else {
+        Listing::new(alloc, &certificate.shapes)
+    }
+}
+
 /// The certificate.
 fn write_certificate(
-    alloc: Global,
     writer: &mut Writer,
+    shapes: ShapeWriter<'_>,
     certificate: &NumberedCertificate,
 ) -> Result<(), OutOfMemory>
     requires within { AreWithin certificate.now }
+    requires ready { IsReady shapes }
+    requires table { shapes.shapes.now ≡ certificate.now.shapes }
     ensures before { writer.new.before ≡ writer.old.before }
     ensures tokens { OnOk result (writer.new.tokens
-        ≡ writer.old.tokens ++ tree_tokens (written_certificate (numbered_view certificate.now))) }
+        ≡ writer.old.tokens ++ tree_tokens (certificate_tree shapes (numbered_view certificate.now))) }
     ensures reads_back { OnOk result
-        (ReadsBack (written_certificate (numbered_view certificate.now))) }
+        (ReadsBack (certificate_tree shapes (numbered_view certificate.now))) }
 {
-    let mut spellings = Spellings::new(alloc, &certificate.shapes);
+    let mut spellings = Spellings::new(shapes);
     writer.begin_object()?;
     writer.key("output")?;
     spellings.write(writer, certificate.output)?;
+    write_shapes(writer, shapes)?;
     writer.key("states")?;
     write_states(writer, &mut spellings, &certificate.states)?;
     writer.key("version")?;
     writer.i64(certificate.version())?;
     writer.end_object()?;
+    Ok(())
+}
+
+/// `shapes`, where any are listed.
+fn write_shapes(writer: &mut Writer, shapes: ShapeWriter<'_>) -> Result<(), OutOfMemory>
+    requires ready { IsReady shapes }
+    ensures before { writer.new.before ≡ writer.old.before }
+    ensures tokens { OnOk result (writer.new.tokens
+        ≡ writer.old.tokens ++ listed_tokens shapes shapes.listing.now.order.items) }
+    ensures read_back { OnOk result
+        (NumbersReadBack (spelled_over shapes) shapes shapes.listing.now.order.items) }
+{
+    if !shapes.listed().is_empty() {
+        writer.key("shapes")?;
+        write_listed(writer, shapes)?;
+    }
+    Ok(())
+}
+
+/// The list of the listed shapes.
+fn write_listed(writer: &mut Writer, shapes: ShapeWriter<'_>) -> Result<(), OutOfMemory>
+    requires ready { IsReady shapes }
+    ensures before { writer.new.before ≡ writer.old.before }
+    ensures tokens { OnOk result (writer.new.tokens ≡ writer.old.tokens
+        ++ begin_array ∷ list_tokens (spelled_over shapes) shapes shapes.listing.now.order.items) }
+    ensures read_back { OnOk result
+        (NumbersReadBack (spelled_over shapes) shapes shapes.listing.now.order.items) }
+{
+    writer.begin_array()?;
+    for number in shapes.listed() {
+        let tree = shapes.write_over(*number)?;
+        asl_tree::write(writer, &tree)?;
+    }
+    writer.end_array()?;
     Ok(())
 }
 
@@ -106,15 +138,14 @@ fn write_states(
     spellings: &mut Spellings,
     states: &BTreeMap<String, StateNumbers>,
 ) -> Result<(), OutOfMemory>
-    requires below { AreEntriesBelow (length spellings.old.shapes.now) states.now.entries }
+    requires ready { IsReady spellings.old.shapes }
+    requires below { AreEntriesBelow (length spellings.old.shapes.shapes.now) states.now.entries }
     requires kept { IsKept spellings.old }
     ensures before { writer.new.before ≡ writer.old.before }
     ensures kept { StaysKept spellings.old spellings.new }
-    ensures tokens { OnOk result (writer.new.tokens
-        ≡ writer.old.tokens
-        ++ begin_object ∷ states_tokens (shapes_in spellings.old) states.now.entries) }
-    ensures read_back { OnOk result
-        (StatesReadBack (shapes_in spellings.old) states.now.entries) }
+    ensures tokens { OnOk result (writer.new.tokens ≡ writer.old.tokens
+        ++ begin_object ∷ states_tokens spellings.old.shapes states.now.entries) }
+    ensures read_back { OnOk result (StatesReadBack spellings.old.shapes states.now.entries) }
     ensures in_order { OnOk result (IsStrictlySortedBy string_cmp (keys_of states.now.entries)) }
 {
     writer.begin_object()?;
@@ -132,13 +163,14 @@ fn write_state(
     spellings: &mut Spellings,
     state: &StateNumbers,
 ) -> Result<(), OutOfMemory>
-    requires below { AreNumbersBelow (length spellings.old.shapes.now) state.now }
+    requires ready { IsReady spellings.old.shapes }
+    requires below { AreNumbersBelow (length spellings.old.shapes.shapes.now) state.now }
     requires kept { IsKept spellings.old }
     ensures before { writer.new.before ≡ writer.old.before }
     ensures kept { StaysKept spellings.old spellings.new }
     ensures tokens { OnOk result (writer.new.tokens
-        ≡ writer.old.tokens ++ tree_tokens (state_tree (shapes_in spellings.old) state.now)) }
-    ensures reads_back { OnOk result (ReadsBack (state_tree (shapes_in spellings.old) state.now)) }
+        ≡ writer.old.tokens ++ tree_tokens (state_tree spellings.old.shapes state.now)) }
+    ensures reads_back { OnOk result (ReadsBack (state_tree spellings.old.shapes state.now)) }
 {
     writer.begin_object()?;
     write_branches(writer, spellings, &state.branches)?;
@@ -157,13 +189,15 @@ fn write_branches(
     spellings: &mut Spellings,
     branches: &[usize],
 ) -> Result<(), OutOfMemory>
-    requires below { AreBelow (length spellings.old.shapes.now) branches.now }
+    requires ready { IsReady spellings.old.shapes }
+    requires below { AreBelow (length spellings.old.shapes.shapes.now) branches.now }
     requires kept { IsKept spellings.old }
     ensures before { writer.new.before ≡ writer.old.before }
     ensures kept { StaysKept spellings.old spellings.new }
     ensures tokens { OnOk result (writer.new.tokens
-        ≡ writer.old.tokens ++ branches_tokens (shapes_in spellings.old) branches.now) }
-    ensures read_back { OnOk result (NumbersReadBack (shapes_in spellings.old) branches.now) }
+        ≡ writer.old.tokens ++ branches_tokens spellings.old.shapes branches.now) }
+    ensures read_back { OnOk result
+        (NumbersReadBack (referred spellings.old.shapes) spellings.old.shapes branches.now) }
 {
     if !branches.is_empty() {
         writer.key("branches")?;
@@ -172,19 +206,21 @@ fn write_branches(
     Ok(())
 }
 
-/// The list of the shapes.
+/// The list of what stands for the shapes.
 fn write_list(
     writer: &mut Writer,
     spellings: &mut Spellings,
     numbers: &[usize],
 ) -> Result<(), OutOfMemory>
-    requires below { AreBelow (length spellings.old.shapes.now) numbers.now }
+    requires ready { IsReady spellings.old.shapes }
+    requires below { AreBelow (length spellings.old.shapes.shapes.now) numbers.now }
     requires kept { IsKept spellings.old }
     ensures before { writer.new.before ≡ writer.old.before }
     ensures kept { StaysKept spellings.old spellings.new }
-    ensures tokens { OnOk result (writer.new.tokens
-        ≡ writer.old.tokens ++ begin_array ∷ list_tokens (shapes_in spellings.old) numbers.now) }
-    ensures read_back { OnOk result (NumbersReadBack (shapes_in spellings.old) numbers.now) }
+    ensures tokens { OnOk result (writer.new.tokens ≡ writer.old.tokens ++ begin_array
+        ∷ list_tokens (referred spellings.old.shapes) spellings.old.shapes numbers.now) }
+    ensures read_back { OnOk result
+        (NumbersReadBack (referred spellings.old.shapes) spellings.old.shapes numbers.now) }
 {
     writer.begin_array()?;
     for number in numbers {
@@ -200,13 +236,14 @@ fn write_item(
     spellings: &mut Spellings,
     item: Option<usize>,
 ) -> Result<(), OutOfMemory>
-    requires below { IfSome item (λ n. n < length spellings.old.shapes.now) }
+    requires ready { IsReady spellings.old.shapes }
+    requires below { IfSome item (λ n. n < length spellings.old.shapes.shapes.now) }
     requires kept { IsKept spellings.old }
     ensures before { writer.new.before ≡ writer.old.before }
     ensures kept { StaysKept spellings.old spellings.new }
     ensures tokens { OnOk result (writer.new.tokens
-        ≡ writer.old.tokens ++ item_tokens (shapes_in spellings.old) item) }
-    ensures read_back { OnOk result (ItemReadsBack (shapes_in spellings.old) item) }
+        ≡ writer.old.tokens ++ item_tokens spellings.old.shapes item) }
+    ensures read_back { OnOk result (ItemReadsBack spellings.old.shapes item) }
 {
     if let Some(number) = item {
         writer.key("item")?;

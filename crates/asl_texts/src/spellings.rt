@@ -1,53 +1,48 @@
-// What is written for the shapes of a table, of which the last is kept.
+// What stands for the shapes of a table, of which the last is kept.
 
 ghost use Rattle.std.specs.Prelude.{◌≡◌, ◌<◌, ◌++◌, length, IfOk, OnOk};
+ghost use Rattle.asl_records.specs.WritingNumbered.{IsReady, referred_at};
 ghost use Rattle.asl_tree.specs.View.{view};
 ghost use Rattle.asl_tree.specs.Written.{tree_tokens, ReadsBack};
-ghost use Rattle.asl_texts.specs.CertificateTokens.{IsKept, StaysKept, shape_tree, shapes_in};
+ghost use Rattle.asl_texts.specs.CertificateTokens.{IsKept, StaysKept};
 
-use asl_numbered::Shapes;
+use asl_records::ShapeWriter;
 use asl_tree::{OutOfMemory, Tree};
 use json::Writer;
-use std::alloc::Global;
 
-/// A shape's number, and the tree that is written for it.
+/// A shape's number, and the tree that stands for it.
 #[derive(Drop)]
 struct Spelling {
     number: usize,
     tree: Tree,
 }
 
-/// What is written for the shapes of a table. The tree that was written last is kept: often the input and the output
-/// of a state have one shape, and so have neighbours in the order of the names.
+/// What stands for the shapes of a table. The tree that was written last is kept: often the input and the output of a
+/// state have one shape, and so have neighbours in the order of the names.
 #[derive(Drop)]
 pub(crate) struct Spellings<'a> {
-    alloc: Global,
-    shapes: &'a Shapes,
+    shapes: ShapeWriter<'a>,
     last: Option<Spelling>,
 }
 
 impl<'a> Spellings<'a> {
     /// Nothing has been written yet.
-    pub(crate) fn new(alloc: Global, shapes: &'a Shapes) -> Spellings<'a>
-        ensures shapes { result.shapes.now ≡ shapes.now }
+    pub(crate) fn new(shapes: ShapeWriter<'a>) -> Spellings<'a>
+        ensures shapes { result.shapes ≡ shapes }
         ensures kept { IsKept result }
     {
-        Spellings {
-            alloc,
-            shapes,
-            last: None,
-        }
+        Spellings { shapes, last: None }
     }
 
-    /// Writes the spelling of the shape of that number.
+    /// Writes what stands for the shape of that number.
     pub(crate) fn write(&mut self, writer: &mut Writer, number: usize) -> Result<(), OutOfMemory>
-        requires below { number < length self.old.shapes.now }
+        requires ready { IsReady self.old.shapes }
+        requires below { number < length self.old.shapes.shapes.now }
         requires kept { IsKept self.old }
         ensures before { writer.new.before ≡ writer.old.before }
         ensures tokens { OnOk result (writer.new.tokens
-            ≡ writer.old.tokens ++ tree_tokens (shape_tree (shapes_in self.old) number)) }
-        ensures reads_back { OnOk result
-            (ReadsBack (shape_tree (shapes_in self.old) number)) }
+            ≡ writer.old.tokens ++ tree_tokens (referred_at self.old.shapes number)) }
+        ensures reads_back { OnOk result (ReadsBack (referred_at self.old.shapes number)) }
         ensures kept { StaysKept self.old self.new }
     {
         if let Some(last) = &self.last {
@@ -55,25 +50,9 @@ impl<'a> Spellings<'a> {
                 return asl_tree::write(writer, &last.tree);
             }
         }
-        let last = self.spell(number)?;
-        asl_tree::write(writer, &last.tree)?;
-        self.last = Some(last);
+        let tree = self.shapes.refer(number)?;
+        asl_tree::write(writer, &tree)?;
+        self.last = Some(Spelling { number, tree });
         Ok(())
-    }
-
-    // The shape of that number is expanded, and let go once its tree is made.
-    fn spell(&self, number: usize) -> Result<Spelling, OutOfMemory>
-        requires below { number < length self.now.shapes.now }
-        ensures number { IfOk result (λ spelling. spelling.number ≡ number) }
-        ensures tree { IfOk result
-            (λ spelling. view spelling.tree ≡ shape_tree (shapes_in self.now) number) }
-    {
-        let Some(shape) = self.shapes.expand(number)? else {
-            unreachable!()
-        };
-        Ok(Spelling {
-            number,
-            tree: asl_shape::write(self.alloc, &shape)?,
-        })
     }
 }

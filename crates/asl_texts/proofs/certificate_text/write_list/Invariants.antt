@@ -1,15 +1,18 @@
 use Rattle.std.proofs.Common.{◌≡◌, ◌∷◌, ◌++◌, drop, length}
 use Rattle.json.specs.Token.{begin_array}
 use Rattle.asl_numbered.specs.Expansion.{AreBelow}
-use Rattle.asl_texts.specs.CertificateTokens.{list_tokens, shapes_in, NumbersReadBack, StaysKept}
+use Rattle.asl_records.specs.WritingNumbered.{referred}
+use Rattle.asl_texts.specs.CertificateTokens.{list_tokens, NumbersReadBack, StaysKept}
 use Rattle.asl_texts.proofs.certificate_text.write_list.Given as goal
 
 -- what is written, and then the tokens of what is left, are all of them
 abbrev pub invariant-loop-number : goal.invariant-loop-number
-invariant-loop-number l = record {
-  before : l.writer.before ≡ l.fn.writer.before;
-  tokens : l.writer.tokens ++ list_tokens (shapes_in l.fn.spellings) (drop l.number-index l.numbers) ≡ l.fn.writer.tokens ++ begin_array ∷ list_tokens (shapes_in l.fn.spellings) l.numbers;
-  kept : StaysKept l.fn.spellings l.spellings;
-  back : NumbersReadBack (shapes_in l.fn.spellings) (drop l.number-index l.numbers) → NumbersReadBack (shapes_in l.fn.spellings) l.numbers;
-  below : AreBelow (length l.fn.spellings.shapes.now) (drop l.number-index l.numbers);
-}
+invariant-loop-number l =
+    let shapes = l.fn.spellings.shapes in
+    record {
+      before : l.writer.before ≡ l.fn.writer.before;
+      tokens : l.writer.tokens ++ list_tokens (referred shapes) shapes (drop l.number-index l.numbers) ≡ l.fn.writer.tokens ++ begin_array ∷ list_tokens (referred shapes) shapes l.numbers;
+      kept : StaysKept l.fn.spellings l.spellings;
+      back : NumbersReadBack (referred shapes) shapes (drop l.number-index l.numbers) → NumbersReadBack (referred shapes) shapes l.numbers;
+      below : AreBelow (length l.fn.spellings.shapes.shapes.now) (drop l.number-index l.numbers);
+    }

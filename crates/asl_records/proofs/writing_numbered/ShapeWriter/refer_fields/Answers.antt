@@ -6,7 +6,7 @@ use Rattle.asl_numbered.proofs.Expansions.{below_next_field}
 use Rattle.asl_records.specs.WritingNumbered.{referred, table_of}
 use Rattle.asl_records.proofs.References.{Mention, fields_referred}
 use Rattle.asl_records.proofs.Writings.{begun, gone_on, all_written}
-use Rattle.asl_records.proofs.writing_numbered.Writer.refer_fields.Goals as goal
+use Rattle.asl_records.proofs.writing_numbered.ShapeWriter.refer_fields.Goals as goal
 
 pub loop-name-init : goal.loop-name-init
 loop-name-init c =

@@ -3,7 +3,7 @@ use Rattle.asl_model.specs.Shape.{Shape}
 use Rattle.asl_numbered.specs.Expansion.{shape_at, numbers_in, AreBelow}
 use Rattle.asl_records.specs.WritingNumbered.{referred, table_of}
 use Rattle.asl_records.proofs.Writings.{Writes}
-use Rattle.asl_records.proofs.writing_numbered.Writer.refer_fields.Given as goal
+use Rattle.asl_records.proofs.writing_numbered.ShapeWriter.refer_fields.Given as goal
 
 abbrev pub invariant-loop-name : goal.invariant-loop-name
 invariant-loop-name l = record {

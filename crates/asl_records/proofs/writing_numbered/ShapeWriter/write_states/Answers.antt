@@ -5,7 +5,7 @@ use Rattle.asl_records.specs.Numbered.{numbers_view}
 use Rattle.asl_records.specs.WritingNumbered.{referred, table_of}
 use Rattle.asl_records.proofs.Numberings.{next_below}
 use Rattle.asl_records.proofs.Writings.{begun, gone_on, all_written}
-use Rattle.asl_records.proofs.writing_numbered.Writer.write_states.Goals as goal
+use Rattle.asl_records.proofs.writing_numbered.ShapeWriter.write_states.Goals as goal
 
 pub loop-name-init : goal.loop-name-init
 loop-name-init c = record {

@@ -4,7 +4,7 @@ use Rattle.asl_model.specs.Written.{written_state}
 use Rattle.asl_records.specs.Numbered.{numbers_view, AreEntriesBelow}
 use Rattle.asl_records.specs.WritingNumbered.{referred, table_of}
 use Rattle.asl_records.proofs.Writings.{Writes}
-use Rattle.asl_records.proofs.writing_numbered.Writer.write_states.Given as goal
+use Rattle.asl_records.proofs.writing_numbered.ShapeWriter.write_states.Given as goal
 
 abbrev pub invariant-loop-name : goal.invariant-loop-name
 invariant-loop-name l = record {

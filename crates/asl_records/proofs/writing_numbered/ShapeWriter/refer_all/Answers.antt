@@ -1,6 +1,6 @@
 use Rattle.asl_records.specs.WritingNumbered.{referred, table_of}
 use Rattle.asl_records.proofs.References.{numbers_written}
-use Rattle.asl_records.proofs.writing_numbered.Writer.refer_all.Goals as goal
+use Rattle.asl_records.proofs.writing_numbered.ShapeWriter.refer_all.Goals as goal
 
 pub returns : goal.returns
 returns c =

@@ -1,7 +1,7 @@
 use Rattle.std.proofs.Common.{length}
 use Rattle.asl_records.specs.WritingNumbered.{table_of}
 use Rattle.asl_records.proofs.References.{arrays_within, objects_within}
-use Rattle.asl_records.proofs.writing_numbered.Writer.write_over.Goals as goal
+use Rattle.asl_records.proofs.writing_numbered.ShapeWriter.write_over.Goals as goal
 
 pub refer_arrays-requires-clause-below : goal.refer_arrays-requires-clause-below
 refer_arrays-requires-clause-below c =

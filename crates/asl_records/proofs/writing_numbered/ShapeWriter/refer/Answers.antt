@@ -1,5 +1,5 @@
 use Rattle.asl_records.proofs.References.{place_fits}
-use Rattle.asl_records.proofs.writing_numbered.Writer.refer.Goals as goal
+use Rattle.asl_records.proofs.writing_numbered.ShapeWriter.refer.Goals as goal
 
 pub write_reference-requires : goal.write_reference-requires
 write_reference-requires c =

@@ -1,7 +1,7 @@
 use Rattle.std.proofs.Common.{◌≤◌, length, subst}
 use Rattle.asl_records.specs.WritingNumbered.{spelled_over, table_of}
 use Rattle.asl_records.proofs.References.{numbers_written}
-use Rattle.asl_records.proofs.writing_numbered.Writer.write_listed.Goals as goal
+use Rattle.asl_records.proofs.writing_numbered.ShapeWriter.write_listed.Goals as goal
 
 pub returns : goal.returns
 returns c =

@@ -1,6 +1,6 @@
 use Rattle.asl_records.specs.WritingNumbered.{listed_by, table_of}
 use Rattle.asl_records.proofs.References.{arrays_written}
-use Rattle.asl_records.proofs.writing_numbered.Writer.refer_arrays.Goals as goal
+use Rattle.asl_records.proofs.writing_numbered.ShapeWriter.refer_arrays.Goals as goal
 
 pub returns-clause-written : goal.returns-clause-written
 returns-clause-written c = λ others.
