@@ -15,18 +15,17 @@ mod declaring;
 mod explaining;
 mod graphing;
 mod inferring;
-mod linting;
 mod running;
 mod sampling;
 
 use asl_command_line::{Request, print_completions, request_or_status, words_or_status};
+use asl_linting::lint_files;
 use asl_testing::test_files;
 use checking::{check_files, check_input};
 use declaring::declare_file;
 use explaining::explain_files;
 use graphing::graph_file;
 use inferring::{infer_files, verify_files};
-use linting::lint;
 use running::run_files;
 use sampling::shape_files;
 use std::process::ExitCode;
@@ -48,7 +47,7 @@ fn run<R: Env + Files + Input + Print + Eprint + AllocGlobal + Clone + Drop>(rt:
         Ok(Request::Infer(request)) => infer_files(rt, &request),
         Ok(Request::Verify(files)) => verify_files(rt, &files),
         Ok(Request::Run(request)) => run_files(rt, &request),
-        Ok(Request::Lint(request)) => lint(rt, request),
+        Ok(Request::Lint(request)) => lint_files(rt, &request),
         Ok(Request::Explain(request)) => explain_files(rt, &request),
         Ok(Request::Declare(name)) => declare_file(rt, name),
         Ok(Request::Shape(request)) => shape_files(rt, &request),

@@ -11,6 +11,6 @@ mod requests;
 
 pub use completions::print_completions;
 pub use requests::{
-    ExplainRequest, GraphFormat, GraphRequest, InferRequest, LintFormat, LintRequest, MachineFiles,
-    Request, RunRequest, ShapeRequest, Shell, TextFiles, request_or_status, words_or_status,
+    ExplainRequest, GraphFormat, GraphRequest, InferRequest, MachineFiles, Request, RunRequest,
+    ShapeRequest, Shell, TextFiles, request_or_status, words_or_status,
 };

@@ -6,7 +6,7 @@ use crate::commands::{
     command_named, program,
 };
 use crate::endings::refuse;
-use asl_files::is_input;
+use asl_files::{LintFormat, LintRequest, is_input};
 use asl_results::Format as ReportFormat;
 use asl_testing::TestRequest;
 use asl_texts::Pick;
@@ -76,27 +76,6 @@ pub struct RunRequest<'a> {
     pub answers: &'a str,
     pub order: Pick,
     pub max_steps: u64,
-}
-
-/// Which definitions are looked at, and how it is told.
-#[derive(Drop)]
-pub struct LintRequest<'a> {
-    /// Files and folders, at least one.
-    pub names: Vec<&'a str>,
-    /// The file with the declared shapes of all of them.
-    pub declared: Option<&'a str>,
-    pub format: LintFormat,
-    /// Whether a warning weighs as much as an error.
-    pub deny_warnings: bool,
-}
-
-/// How diagnostics are written.
-#[derive(Clone, Copy)]
-pub enum LintFormat {
-    Text,
-    Json,
-    Sarif,
-    Github,
 }
 
 /// What is explained, of the texts in these files.

@@ -1,16 +1,18 @@
 //! What the commands of the program `asl` have in common: the texts in files and on standard input, what goes to standard
-//! output, how a command ends, and how many rounds an inference may take.
+//! output, how a command ends, how many rounds an inference may take, and what `lint` is asked for.
 #![tactic(auto)]
 
 mod endings;
 mod files;
 mod printing;
+mod requests;
 
 pub use endings::{end, finish, finish_with, or_out_of_memory};
 pub use files::{
     Unread, file_source, file_text, input_source, is_input, text_or_status, text_or_why,
 };
 pub use printing::{print_line, print_text, print_verdict, with_break};
+pub use requests::{LintFormat, LintRequest};
 
 /// How many rounds an inference may take.
 pub const ROUNDS: u32 = 4096;

@@ -1,26 +1,14 @@
 //! From definitions to all that is wrong with them, on standard output.
 
 use crate::definitions::definition_paths;
-use crate::reports::{Format, Report, Told};
-use asl_files::{ROUNDS, Unread, finish, is_input, print_text, text_or_why};
+use crate::reports::{Report, Told};
+use asl_files::{LintRequest, ROUNDS, Unread, finish, is_input, print_text, text_or_why};
 use asl_lint::{File, lint};
 use asl_texts::{Closing, RunFault};
 use asl_tree::OutOfMemory;
 use std::alloc::Global;
 use std::fs;
 use std::rt::Files;
-
-/// Which definitions are looked at, and how it is told.
-#[derive(Drop)]
-pub struct LintRequest<'a> {
-    /// Files and folders, at least one.
-    pub names: Vec<&'a str>,
-    /// The file with the declared shapes of all of them.
-    pub declared: Option<&'a str>,
-    pub format: Format,
-    /// Whether a warning weighs as much as an error.
-    pub deny_warnings: bool,
-}
 
 /// Checks definitions, writes what is wrong with them to standard output, and gives the exit status. What couldn't be looked
 /// at, and the count of what was told, go to standard error.

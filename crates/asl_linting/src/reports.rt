@@ -3,23 +3,10 @@
 use asl_diagnostics::{
     Diagnostic, Severity, github_lines, json_text, sarif_text, sort, text_lines,
 };
-use asl_files::with_break;
+use asl_files::{LintFormat, with_break};
 use asl_lint::Linted;
 use asl_tree::{OutOfMemory, in_line, same};
 use std::alloc::Global;
-
-/// How diagnostics are written.
-#[derive(Clone, Copy)]
-pub enum Format {
-    /// A line for each, for people.
-    Text,
-    /// A JSON list.
-    Json,
-    /// A log in SARIF.
-    Sarif,
-    /// Commands for a workflow of GitHub.
-    Github,
-}
 
 /// What was found so far.
 #[derive(Drop)]
@@ -106,7 +93,7 @@ impl Report {
     pub(crate) fn told(
         self,
         alloc: Global,
-        format: Format,
+        format: LintFormat,
         deny_warnings: bool,
     ) -> Result<Told, OutOfMemory> {
         let diagnostics = in_order(alloc, self.diagnostics)?;
@@ -229,12 +216,12 @@ fn says_the_same(one: &Diagnostic, other: &Diagnostic) -> bool {
 fn written(
     alloc: Global,
     diagnostics: &[Diagnostic],
-    format: Format,
+    format: LintFormat,
 ) -> Result<String, OutOfMemory> {
     match format {
-        Format::Text => text_lines(alloc, diagnostics),
-        Format::Json => with_break(json_text(alloc, diagnostics)?),
-        Format::Sarif => with_break(sarif_text(alloc, diagnostics)?),
-        Format::Github => github_lines(alloc, diagnostics),
+        LintFormat::Text => text_lines(alloc, diagnostics),
+        LintFormat::Json => with_break(json_text(alloc, diagnostics)?),
+        LintFormat::Sarif => with_break(sarif_text(alloc, diagnostics)?),
+        LintFormat::Github => github_lines(alloc, diagnostics),
     }
 }
