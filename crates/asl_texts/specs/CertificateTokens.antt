@@ -13,7 +13,7 @@ use Rattle.asl_model.specs.Written.{written_list, written_entries, written_state
 use Rattle.asl_model.specs.WrittenNumbered.{shapes_listed}
 use Rattle.asl_numbered.specs.Expansion.{shape_at}
 use Rattle.asl_records.specs.Numbered.{numbers_view, numbered_entries}
-use Rattle.asl_records.specs.WritingNumbered.{table_of, listed_by, referred, referred_at, spelled_over}
+use Rattle.asl_records.specs.WritingNumbered.{table_of, listed_by, referred, spelled_over}
 use Rattle.asl_records.specs.declared.records.StateNumbers.{StateNumbers}
 use Rattle.asl_records.specs.declared.writing_numbered.ShapeWriter.{ShapeWriter}
 use Rattle.asl_tree.specs.View.{view}
@@ -25,9 +25,20 @@ abbrev pub listed_if : Bool → Certificate → List Shape
 listed_if true certificate = shapes_listed certificate
 listed_if false certificate = []
 
+-- the numbers of the listed shapes
+abbrev pub listed_numbers : ShapeWriter → List ℕ
+listed_numbers shapes = shapes.listing.now.order.items
+
+-- what stands for a shape, and for the one of that number
+unfoldable pub stands_for : ShapeWriter → Shape → Tree
+stands_for shapes = referred shapes
+
+abbrev pub tree_at : ShapeWriter → ℕ → Tree
+tree_at shapes n = stands_for shapes (shape_at (table_of shapes) n)
+
 -- the tree that is kept is the one that stands for the shape of its number
 pub record IsKept (spellings : Spellings) : Type 0 where
-  pub kept : IfSome spellings.last (λ last. view last.tree ≡ referred_at spellings.shapes last.number)
+  pub kept : IfSome spellings.last (λ last. view last.tree ≡ tree_at spellings.shapes last.number)
 
 -- so it is afterwards, and the shapes are the same
 pub record StaysKept (before after : Spellings) : Type 0 where
@@ -36,11 +47,11 @@ pub record StaysKept (before after : Spellings) : Type 0 where
 
 -- the tree of a certificate
 abbrev pub certificate_tree : ShapeWriter → Certificate → Tree
-certificate_tree shapes = certificate_written (spelled_over shapes) (listed_by shapes) (referred shapes)
+certificate_tree shapes = certificate_written (spelled_over shapes) (listed_by shapes) (stands_for shapes)
 
 -- the one that is written for a state with those numbers
 abbrev pub state_tree : ShapeWriter → StateNumbers → Tree
-state_tree shapes state = written_state (referred shapes) (numbers_view (table_of shapes) state)
+state_tree shapes state = written_state (stands_for shapes) (numbers_view (table_of shapes) state)
 
 -- the tokens of what stands in a list of shapes, with the closing bracket
 abbrev pub list_tokens : (Shape → Tree) → ShapeWriter → List ℕ → List Token
@@ -57,17 +68,17 @@ listed_tokens shapes (n ∷ ns) =
 abbrev pub branches_tokens : ShapeWriter → List ℕ → List Token
 branches_tokens shapes [] = []
 branches_tokens shapes (n ∷ ns) =
-    key (codes "branches") ∷ begin_array ∷ list_tokens (referred shapes) shapes (n ∷ ns)
+    key (codes "branches") ∷ begin_array ∷ list_tokens (stands_for shapes) shapes (n ∷ ns)
 
 -- those of the field `item`, where there is one
 abbrev pub item_tokens : ShapeWriter → Option ℕ → List Token
 item_tokens shapes None = []
-item_tokens shapes (Some n) = key (codes "item") ∷ tree_tokens (referred_at shapes n)
+item_tokens shapes (Some n) = key (codes "item") ∷ tree_tokens (tree_at shapes n)
 
 -- those of the states under their names, with the closing bracket
 abbrev pub states_tokens : ShapeWriter → List (String Global × StateNumbers) → List Token
 states_tokens shapes states = members_tokens (members_outline (members_for
-    (written_entries (written_state (referred shapes)) (numbered_entries (table_of shapes) states))))
+    (written_entries (written_state (stands_for shapes)) (numbered_entries (table_of shapes) states))))
 
 -- what is written for the shape of each of the numbers reads back
 pub record NumbersReadBack (written : Shape → Tree) (shapes : ShapeWriter) (ns : List ℕ) : Type 0 where
@@ -75,7 +86,7 @@ pub record NumbersReadBack (written : Shape → Tree) (shapes : ShapeWriter) (ns
 
 -- so for the one that may be there
 pub record ItemReadsBack (shapes : ShapeWriter) (item : Option ℕ) : Type 0 where
-  pub back : IfSome item (λ n. ReadsBack (referred_at shapes n))
+  pub back : IfSome item (λ n. ReadsBack (tree_at shapes n))
 
 -- so for each of the states
 pub record StatesReadBack (shapes : ShapeWriter) (states : List (String Global × StateNumbers))

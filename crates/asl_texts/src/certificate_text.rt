@@ -1,26 +1,28 @@
 //! The text of a certificate, written as it goes.
 
-ghost use Rattle.std.specs.Prelude.{◌≡◌, ◌<◌, ◌∷◌, ◌++◌, IfOk, IfSome, OnOk, length, string_bytes};
+ghost use Rattle.std.specs.Prelude.{◌≡◌, ◌<◌, ◌∷◌, ◌++◌, IfOk, IfSome, OnOk, length, pos, string_bytes};
 ghost use Rattle.std.specs.List.Sorted.{IsStrictlySortedBy};
 ghost use Rattle.std.specs.Map.{keys_of};
 ghost use Rattle.std.specs.String.{string_cmp};
 ghost use Rattle.json.specs.Token.{begin_array, begin_object};
 ghost use Rattle.asl_model.specs.Json.{compact_text};
 ghost use Rattle.asl_model.specs.Texts.{ReadsAsCertificate};
+ghost use Rattle.asl_model.specs.Tree.{Integer};
+ghost use Rattle.asl_model.specs.Written.{version_of};
 ghost use Rattle.asl_numbered.specs.Expansion.{AreBelow};
 ghost use Rattle.asl_records.specs.Listing.{IsListing, listed_shapes};
 ghost use Rattle.asl_records.specs.Numbered.{AreWithin, AreNumbersBelow, AreEntriesBelow, numbered_view};
-ghost use Rattle.asl_records.specs.WritingNumbered.{IsReady, referred, spelled_over};
+ghost use Rattle.asl_records.specs.WritingNumbered.{IsReady, spelled_over};
 ghost use Rattle.asl_tree.specs.Written.{tree_tokens, ReadsBack};
 ghost use Rattle.asl_texts.specs.CertificateText.{IsShallow, written_as};
-ghost use Rattle.asl_texts.specs.CertificateTokens.{IsKept, StaysKept, NumbersReadBack, ItemReadsBack, StatesReadBack, branches_tokens, certificate_tree, item_tokens, list_tokens, listed_if, listed_tokens, state_tree, states_tokens};
+ghost use Rattle.asl_texts.specs.CertificateTokens.{IsKept, StaysKept, NumbersReadBack, ItemReadsBack, StatesReadBack, branches_tokens, certificate_tree, item_tokens, list_tokens, listed_if, listed_numbers, listed_tokens, stands_for, state_tree, states_tokens};
 
 use crate::spellings::Spellings;
 use asl_model::reading_laws::written_records_are_read_back;
 use asl_records::{Listing, NumberedCertificate, ShapeWriter, StateNumbers};
 use asl_tree::OutOfMemory;
 use json::Writer;
-use std::alloc::Global;
+use std::alloc::{AllocError, Global};
 use std::collections::BTreeMap;
 
 /// The compact text of what is written of a certificate. Where `numbered` is true each distinct shape of lists or objects is
@@ -80,10 +82,10 @@ fn write_certificate(
     requires ready { IsReady shapes }
     requires table { shapes.shapes.now ≡ certificate.now.shapes }
     ensures before { writer.new.before ≡ writer.old.before }
-    ensures tokens { OnOk result (writer.new.tokens
-        ≡ writer.old.tokens ++ tree_tokens (certificate_tree shapes (numbered_view certificate.now))) }
+    ensures tokens { OnOk result (writer.new.tokens ≡ writer.old.tokens
+        ++ tree_tokens (certificate_tree shapes.entry (numbered_view certificate.now))) }
     ensures reads_back { OnOk result
-        (ReadsBack (certificate_tree shapes (numbered_view certificate.now))) }
+        (ReadsBack (certificate_tree shapes.entry (numbered_view certificate.now))) }
 {
     let mut spellings = Spellings::new(shapes);
     writer.begin_object()?;
@@ -93,9 +95,18 @@ fn write_certificate(
     writer.key("states")?;
     write_states(writer, &mut spellings, &certificate.states)?;
     writer.key("version")?;
-    writer.i64(certificate.version())?;
+    write_version(writer, certificate)?;
     writer.end_object()?;
     Ok(())
+}
+
+/// The certificate's version.
+fn write_version(writer: &mut Writer, certificate: &NumberedCertificate) -> Result<(), AllocError>
+    ensures before { writer.new.before ≡ writer.old.before }
+    ensures tokens { OnOk result (writer.new.tokens ≡ writer.old.tokens
+        ++ tree_tokens (Integer (pos (version_of (numbered_view certificate.now))))) }
+{
+    writer.i64(certificate.version())
 }
 
 /// `shapes`, where any are listed.
@@ -103,9 +114,9 @@ fn write_shapes(writer: &mut Writer, shapes: ShapeWriter<'_>) -> Result<(), OutO
     requires ready { IsReady shapes }
     ensures before { writer.new.before ≡ writer.old.before }
     ensures tokens { OnOk result (writer.new.tokens
-        ≡ writer.old.tokens ++ listed_tokens shapes shapes.listing.now.order.items) }
+        ≡ writer.old.tokens ++ listed_tokens shapes.entry (listed_numbers shapes.entry)) }
     ensures read_back { OnOk result
-        (NumbersReadBack (spelled_over shapes) shapes shapes.listing.now.order.items) }
+        (NumbersReadBack (spelled_over shapes.entry) shapes.entry (listed_numbers shapes.entry)) }
 {
     if !shapes.listed().is_empty() {
         writer.key("shapes")?;
@@ -118,10 +129,10 @@ fn write_shapes(writer: &mut Writer, shapes: ShapeWriter<'_>) -> Result<(), OutO
 fn write_listed(writer: &mut Writer, shapes: ShapeWriter<'_>) -> Result<(), OutOfMemory>
     requires ready { IsReady shapes }
     ensures before { writer.new.before ≡ writer.old.before }
-    ensures tokens { OnOk result (writer.new.tokens ≡ writer.old.tokens
-        ++ begin_array ∷ list_tokens (spelled_over shapes) shapes shapes.listing.now.order.items) }
+    ensures tokens { OnOk result (writer.new.tokens ≡ writer.old.tokens ++ begin_array
+        ∷ list_tokens (spelled_over shapes.entry) shapes.entry (listed_numbers shapes.entry)) }
     ensures read_back { OnOk result
-        (NumbersReadBack (spelled_over shapes) shapes shapes.listing.now.order.items) }
+        (NumbersReadBack (spelled_over shapes.entry) shapes.entry (listed_numbers shapes.entry)) }
 {
     writer.begin_array()?;
     for number in shapes.listed() {
@@ -197,7 +208,7 @@ fn write_branches(
     ensures tokens { OnOk result (writer.new.tokens
         ≡ writer.old.tokens ++ branches_tokens spellings.old.shapes branches.now) }
     ensures read_back { OnOk result
-        (NumbersReadBack (referred spellings.old.shapes) spellings.old.shapes branches.now) }
+        (NumbersReadBack (stands_for spellings.old.shapes) spellings.old.shapes branches.now) }
 {
     if !branches.is_empty() {
         writer.key("branches")?;
@@ -218,9 +229,9 @@ fn write_list(
     ensures before { writer.new.before ≡ writer.old.before }
     ensures kept { StaysKept spellings.old spellings.new }
     ensures tokens { OnOk result (writer.new.tokens ≡ writer.old.tokens ++ begin_array
-        ∷ list_tokens (referred spellings.old.shapes) spellings.old.shapes numbers.now) }
+        ∷ list_tokens (stands_for spellings.old.shapes) spellings.old.shapes numbers.now) }
     ensures read_back { OnOk result
-        (NumbersReadBack (referred spellings.old.shapes) spellings.old.shapes numbers.now) }
+        (NumbersReadBack (stands_for spellings.old.shapes) spellings.old.shapes numbers.now) }
 {
     writer.begin_array()?;
     for number in numbers {

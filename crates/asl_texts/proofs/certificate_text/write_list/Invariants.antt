@@ -1,8 +1,7 @@
 use Rattle.std.proofs.Common.{◌≡◌, ◌∷◌, ◌++◌, drop, length}
 use Rattle.json.specs.Token.{begin_array}
 use Rattle.asl_numbered.specs.Expansion.{AreBelow}
-use Rattle.asl_records.specs.WritingNumbered.{referred}
-use Rattle.asl_texts.specs.CertificateTokens.{list_tokens, NumbersReadBack, StaysKept}
+use Rattle.asl_texts.specs.CertificateTokens.{list_tokens, stands_for, NumbersReadBack, StaysKept}
 use Rattle.asl_texts.proofs.certificate_text.write_list.Given as goal
 
 -- what is written, and then the tokens of what is left, are all of them
@@ -11,8 +10,8 @@ invariant-loop-number l =
     let shapes = l.fn.spellings.shapes in
     record {
       before : l.writer.before ≡ l.fn.writer.before;
-      tokens : l.writer.tokens ++ list_tokens (referred shapes) shapes (drop l.number-index l.numbers) ≡ l.fn.writer.tokens ++ begin_array ∷ list_tokens (referred shapes) shapes l.numbers;
+      tokens : l.writer.tokens ++ list_tokens (stands_for shapes) shapes (drop l.number-index l.numbers) ≡ l.fn.writer.tokens ++ begin_array ∷ list_tokens (stands_for shapes) shapes l.numbers;
       kept : StaysKept l.fn.spellings l.spellings;
-      back : NumbersReadBack (referred shapes) shapes (drop l.number-index l.numbers) → NumbersReadBack (referred shapes) shapes l.numbers;
+      back : NumbersReadBack (stands_for shapes) shapes (drop l.number-index l.numbers) → NumbersReadBack (stands_for shapes) shapes l.numbers;
       below : AreBelow (length l.fn.spellings.shapes.shapes.now) (drop l.number-index l.numbers);
     }
