@@ -1,5 +1,5 @@
-//! Tests of trees, paths, rules, calls, templates, shapes and records by tables of vectors: each call with what it must
-//! answer, and once with ample memory.
+//! Tests of trees, paths, rules, calls, templates, shapes, notations and records by tables of vectors: each call with what
+//! it must answer, and once with ample memory.
 //!
 //! They stand apart from the crates they test, since a crate with tests is proved twice.
 #![tactic(auto)]
@@ -10,6 +10,8 @@ mod choices;
 mod expecting;
 #[cfg(test)]
 mod intrinsics;
+#[cfg(test)]
+mod notations;
 #[cfg(test)]
 mod numbered;
 #[cfg(test)]

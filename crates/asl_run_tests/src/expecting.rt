@@ -1,4 +1,4 @@
-//! What is told, held against what is wanted.
+//! What the tests of several modules share: how an answer is printed, and how it is compared with the one that is wanted.
 use std::alloc::Global;
 use std::fmt::Debug;
 use std::process::Abort;
@@ -6,6 +6,11 @@ use std::process::Abort;
 /// The text is the one that is wanted of these givens.
 pub(crate) fn expect_text(rt: &impl Abort, told: String, wanted: &str, given: &[&str]) {
     assert_eq!(*rt; told.as_str(), wanted, "{given:?}");
+}
+
+/// The text as one of its own.
+pub(crate) fn owned(rt: &impl Abort, alloc: Global, text: &str) -> String {
+    String::from_str(alloc, text).expect(rt, "memory")
 }
 
 /// The value as it is printed.

@@ -1,6 +1,6 @@
 //! Runs step by step: their entries, the places that are enabled then, and how they end, each call once with ample
 //! memory.
-use crate::expecting::{expect_text, printed};
+use crate::expecting::{expect_text, owned, printed};
 use Happening::{Fails, Gives, Moves};
 use asl_machine::{Machine, read};
 use asl_run::{Answer, Event, Outcome, Run, start};
@@ -59,11 +59,6 @@ pub(crate) fn machine(rt: &impl Abort, alloc: Global, definition: &str) -> Machi
 /// The tree that the text spells.
 fn tree(rt: &impl Abort, alloc: Global, text: &str) -> Tree {
     asl_tree::read(alloc, text.as_bytes()).expect(rt, "a tree")
-}
-
-/// The text as one of its own.
-fn owned(rt: &impl Abort, alloc: Global, text: &str) -> String {
-    String::from_str(alloc, text).expect(rt, "memory")
 }
 
 /// A run of the machine from the input that the text spells.
