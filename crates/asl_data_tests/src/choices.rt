@@ -1,5 +1,6 @@
 //! Vectors for rules and tests, and each call once with ample memory.
 use crate::expecting::{expect_text, printed};
+use crate::tables::{Row, Rows, Table, each_row, three, two};
 use asl_choice::{Rule, RuleRefusal, Test, from_tree, holds};
 use asl_tree::{Tree, read};
 use std::alloc::Global;
@@ -35,184 +36,80 @@ fn answer(rt: &impl Abort, alloc: Global, text: &str, input: &Tree) -> String {
 }
 
 /// A rule, and the name of the state that follows, or the refusal.
-const RULES: [(&str, &str); 25] = [
-    (r#"{"Variable":"$.a","IsNull":true,"Next":"B"}"#, "B"),
-    (
-        r#"{"And":[{"Variable":"$.a","IsNull":true}],"Next":"B","Comment":"c"}"#,
-        "B",
-    ),
-    (r#"{"Next":"B"}"#, "NotARule"),
-    (r#"[]"#, "NotARule"),
-    (r#"{"Variable":"$.a","IsNull":true}"#, "NotARule"),
-    (r#"{"Variable":"$.a","IsNull":true,"Next":7}"#, "NotARule"),
-    (r#"{"Variable":"$.a","Next":"B"}"#, "NotARule"),
-    (r#"{"Variable":7,"IsNull":true,"Next":"B"}"#, "NotARule"),
-    (
-        r#"{"Variable":"$.a","IsNull":true,"IsString":true,"Next":"B"}"#,
-        "NotARule",
-    ),
-    (
-        r#"{"And":[{"Variable":"$.a","IsNull":true}],"Assign":{},"Next":"B"}"#,
-        "NotARule",
-    ),
-    (r#"{"Or":{},"Next":"B"}"#, "NotARule"),
-    (
-        r#"{"Not":{"Variable":"$.a","IsNull":true,"Comment":"c"},"Next":"B"}"#,
-        "NotARule",
-    ),
-    (
-        r#"{"Variable":"$.a","StringLike":"x","Next":"B"}"#,
-        "UnknownOperator",
-    ),
-    (
-        r#"{"Variable":"$.a","TimestampEquals":"x","Next":"B"}"#,
-        "UnknownOperator",
-    ),
-    (
-        r#"{"Variable":"$.a","StringMatchesPath":"$.b","Next":"B"}"#,
-        "UnknownOperator",
-    ),
-    (
-        r#"{"Variable":"$.a","And":[],"Next":"B"}"#,
-        "UnknownOperator",
-    ),
-    (
-        r#"{"Variable":"$.a","NumericEquals":"x","Next":"B"}"#,
-        "BadOperand",
-    ),
-    (
-        r#"{"Variable":"$.a","NumericEqualsPath":7,"Next":"B"}"#,
-        "BadOperand",
-    ),
-    (r#"{"Variable":"a","IsNull":true,"Next":"B"}"#, "BadPath"),
-    (r#"{"Variable":"$$.a","IsNull":true,"Next":"B"}"#, "BadPath"),
-    (
-        r#"{"Variable":"$.a","NumericEqualsPath":"a","Next":"B"}"#,
-        "BadPath",
-    ),
-    (
-        r#"{"Variable":"$.a","StringMatches":"\\n","Next":"B"}"#,
-        "BadPattern",
-    ),
-    (
-        r#"{"Variable":"$.a","StringMatches":"a\\","Next":"B"}"#,
-        "BadPattern",
-    ),
-    (r#"{"And":[],"Next":"B"}"#, "EmptyList"),
-    (
-        r#"{"Not":{"Variable":"$.a","IsNull":true,"Next":"B"},"Next":"B"}"#,
-        "NextInside",
-    ),
-];
+const RULES: Table = Table {
+    rows: 25,
+    text: r#"
+- {"Variable":"$.a","IsNull":true,"Next":"B"} => B
+- {"And":[{"Variable":"$.a","IsNull":true}],"Next":"B","Comment":"c"} => B
+- {"Next":"B"} => NotARule
+- [] => NotARule
+- {"Variable":"$.a","IsNull":true} => NotARule
+- {"Variable":"$.a","IsNull":true,"Next":7} => NotARule
+- {"Variable":"$.a","Next":"B"} => NotARule
+- {"Variable":7,"IsNull":true,"Next":"B"} => NotARule
+- {"Variable":"$.a","IsNull":true,"IsString":true,"Next":"B"} => NotARule
+- {"And":[{"Variable":"$.a","IsNull":true}],"Assign":{},"Next":"B"} => NotARule
+- {"Or":{},"Next":"B"} => NotARule
+- {"Not":{"Variable":"$.a","IsNull":true,"Comment":"c"},"Next":"B"} => NotARule
+- {"Variable":"$.a","StringLike":"x","Next":"B"} => UnknownOperator
+- {"Variable":"$.a","TimestampEquals":"x","Next":"B"} => UnknownOperator
+- {"Variable":"$.a","StringMatchesPath":"$.b","Next":"B"} => UnknownOperator
+- {"Variable":"$.a","And":[],"Next":"B"} => UnknownOperator
+- {"Variable":"$.a","NumericEquals":"x","Next":"B"} => BadOperand
+- {"Variable":"$.a","NumericEqualsPath":7,"Next":"B"} => BadOperand
+- {"Variable":"a","IsNull":true,"Next":"B"} => BadPath
+- {"Variable":"$$.a","IsNull":true,"Next":"B"} => BadPath
+- {"Variable":"$.a","NumericEqualsPath":"a","Next":"B"} => BadPath
+- {"Variable":"$.a","StringMatches":"\\n","Next":"B"} => BadPattern
+- {"Variable":"$.a","StringMatches":"a\\","Next":"B"} => BadPattern
+- {"And":[],"Next":"B"} => EmptyList
+- {"Not":{"Variable":"$.a","IsNull":true,"Next":"B"},"Next":"B"} => NextInside
+"#,
+};
 
-#[test]
-fn rules(rt: HostRuntime) {
-    let alloc = rt.alloc();
-    for (text, wanted) in &RULES {
-        expect_text(&rt, next_in(&rt, alloc, text), wanted, &[text]);
+/// The state that follows by the rule, or the refusal, is the one that is wanted.
+#[derive(Drop)]
+struct Following;
+
+impl Rows for Following {
+    fn expect(&mut self, rt: &impl Abort, alloc: Global, row: Row) {
+        let (text, wanted) = two(rt, row);
+        expect_text(rt, next_in(rt, alloc, text), wanted, &[text]);
     }
 }
 
+#[test]
+fn rules(rt: HostRuntime) {
+    each_row(&rt, rt.alloc(), &RULES, &mut Following);
+}
+
 /// The test of a rule, an input, and whether the test is true of it.
-const TRUTHS: [(&str, &str, &str); 21] = [
-    (
-        r#""Or":[{"Variable":"$.k","IsPresent":false},{"Variable":"$.k","StringEquals":"x"}]"#,
-        "{}",
-        "true",
-    ),
-    (
-        r#""Or":[{"Variable":"$.k","StringEquals":"x"},{"Variable":"$.k","IsPresent":false}]"#,
-        "{}",
-        "NamesNothing",
-    ),
-    (
-        r#""And":[{"Variable":"$.k","IsPresent":true},{"Variable":"$.k","StringEquals":"x"}]"#,
-        "{}",
-        "false",
-    ),
-    (
-        r#""Not":{"Variable":"$.k","NumericLessThan":1}"#,
-        r#"{"k":"0"}"#,
-        "true",
-    ),
-    (
-        r#""Not":{"Variable":"$.k","NumericLessThan":1}"#,
-        "{}",
-        "NamesNothing",
-    ),
-    (
-        r#""Variable":"$.n","NumericLessThan":0"#,
-        r#"{"n":0}"#,
-        "false",
-    ),
-    (
-        r#""Variable":"$.n","NumericLessThanEquals":0"#,
-        r#"{"n":0}"#,
-        "true",
-    ),
-    (
-        r#""Variable":"$.a","StringLessThanPath":"$.b""#,
-        r#"{"a":"Z","b":"a"}"#,
-        "true",
-    ),
-    (
-        r#""Variable":"$.a","StringEqualsPath":"$.b""#,
-        r#"{"a":"x"}"#,
-        "NamesNothing",
-    ),
-    (
-        r#""Variable":"$.a","StringGreaterThan":"a""#,
-        r#"{"a":"ab"}"#,
-        "true",
-    ),
-    (
-        r#""Variable":"$.a","BooleanEquals":false"#,
-        r#"{"a":null}"#,
-        "false",
-    ),
-    (
-        r#""Variable":"$.a","IsNull":false"#,
-        r#"{"a":null}"#,
-        "false",
-    ),
-    (r#""Variable":"$.a","IsNumeric":true"#, r#"{"a":1}"#, "true"),
-    (r#""Variable":"$.a","IsString":true"#, r#"{"a":1}"#, "false"),
-    (
-        r#""Variable":"$.a","IsBoolean":false"#,
-        r#"{"a":1}"#,
-        "true",
-    ),
-    (
-        r#""Variable":"$.k","StringMatches":"*ab*ab""#,
-        r#"{"k":"abab"}"#,
-        "true",
-    ),
-    (
-        r#""Variable":"$.k","StringMatches":"*ab*ab""#,
-        r#"{"k":"ababa"}"#,
-        "false",
-    ),
-    (
-        r#""Variable":"$.k","StringMatches":"*ab*ab""#,
-        r#"{"k":7}"#,
-        "false",
-    ),
-    (
-        r#""Variable":"$.k","StringMatches":"a\\*b*""#,
-        r#"{"k":"a*b"}"#,
-        "true",
-    ),
-    (
-        r#""Variable":"$.k","StringMatches":"a\\*b*""#,
-        r#"{"k":"a*bc"}"#,
-        "true",
-    ),
-    (
-        r#""Variable":"$.k","StringMatches":"a\\*b*""#,
-        r#"{"k":"axb"}"#,
-        "false",
-    ),
-];
+const TRUTHS: Table = Table {
+    rows: 21,
+    text: r#"
+- "Or":[{"Variable":"$.k","IsPresent":false},{"Variable":"$.k","StringEquals":"x"}] => {} => true
+- "Or":[{"Variable":"$.k","StringEquals":"x"},{"Variable":"$.k","IsPresent":false}] => {} => NamesNothing
+- "And":[{"Variable":"$.k","IsPresent":true},{"Variable":"$.k","StringEquals":"x"}] => {} => false
+- "Not":{"Variable":"$.k","NumericLessThan":1} => {"k":"0"} => true
+- "Not":{"Variable":"$.k","NumericLessThan":1} => {} => NamesNothing
+- "Variable":"$.n","NumericLessThan":0 => {"n":0} => false
+- "Variable":"$.n","NumericLessThanEquals":0 => {"n":0} => true
+- "Variable":"$.a","StringLessThanPath":"$.b" => {"a":"Z","b":"a"} => true
+- "Variable":"$.a","StringEqualsPath":"$.b" => {"a":"x"} => NamesNothing
+- "Variable":"$.a","StringGreaterThan":"a" => {"a":"ab"} => true
+- "Variable":"$.a","BooleanEquals":false => {"a":null} => false
+- "Variable":"$.a","IsNull":false => {"a":null} => false
+- "Variable":"$.a","IsNumeric":true => {"a":1} => true
+- "Variable":"$.a","IsString":true => {"a":1} => false
+- "Variable":"$.a","IsBoolean":false => {"a":1} => true
+- "Variable":"$.k","StringMatches":"*ab*ab" => {"k":"abab"} => true
+- "Variable":"$.k","StringMatches":"*ab*ab" => {"k":"ababa"} => false
+- "Variable":"$.k","StringMatches":"*ab*ab" => {"k":7} => false
+- "Variable":"$.k","StringMatches":"a\\*b*" => {"k":"a*b"} => true
+- "Variable":"$.k","StringMatches":"a\\*b*" => {"k":"a*bc"} => true
+- "Variable":"$.k","StringMatches":"a\\*b*" => {"k":"axb"} => false
+"#,
+};
 
 /// Whether the test of a rule is true of the input is told as it is wanted.
 fn expect_truth(rt: &impl Abort, alloc: Global, test: &str, input: &str, wanted: &str) {
@@ -226,12 +123,20 @@ fn expect_truth(rt: &impl Abort, alloc: Global, test: &str, input: &str, wanted:
     );
 }
 
+/// Whether the test of the rule is true of the input is told as it is wanted.
+#[derive(Drop)]
+struct Holding;
+
+impl Rows for Holding {
+    fn expect(&mut self, rt: &impl Abort, alloc: Global, row: Row) {
+        let (test, input, wanted) = three(rt, row);
+        expect_truth(rt, alloc, test, input, wanted);
+    }
+}
+
 #[test]
 fn truths(rt: HostRuntime) {
-    let alloc = rt.alloc();
-    for (test, input, wanted) in &TRUTHS {
-        expect_truth(&rt, alloc, test, input, wanted);
-    }
+    each_row(&rt, rt.alloc(), &TRUTHS, &mut Holding);
 }
 
 /// A text so long that a walk whose time grows with the square of its length wouldn't come to its end.

@@ -1,4 +1,6 @@
 //! Notations written by hand, of shapes that JSON texts spell.
+use crate::expecting::expect_text;
+use crate::tables::{Row, Rows, Table, each_row, two};
 use asl_notation::{Limits, note};
 use asl_numbered::{Node, Shapes};
 use asl_shape::Shape;
@@ -17,147 +19,111 @@ fn noted(rt: &impl Abort, alloc: Global, spelling: &str, limits: Limits) -> Stri
     note(alloc, &shapes, number, limits).expect(rt, "a notation")
 }
 
-/// The notation is the one that is wanted of the spelling.
-fn expect_text(rt: &impl Abort, told: String, wanted: &str, spelling: &str) {
-    assert_eq!(*rt; told.as_str(), wanted, "{spelling}");
-}
+/// The notation of the shape is the one that is wanted.
+#[derive(Drop)]
+struct NotedAmply;
 
-/// The notation of each spelling's shape is the one that is wanted.
-fn are_noted(rt: &impl Abort, alloc: Global, rows: &[(&str, &str)]) {
-    for (spelling, wanted) in rows {
-        expect_text(rt, noted(rt, alloc, spelling, AMPLE), wanted, spelling);
+impl Rows for NotedAmply {
+    fn expect(&mut self, rt: &impl Abort, alloc: Global, row: Row) {
+        let (spelling, wanted) = two(rt, row);
+        expect_text(rt, noted(rt, alloc, spelling, AMPLE), wanted, &[spelling]);
     }
 }
 
+/// A shape of one kind or of all, and its notation.
+const SIMPLE_KINDS: Table = Table {
+    rows: 6,
+    text: r#"
+- true => any
+- false => nothing
+- {"type":"null"} => null
+- {"type":"boolean"} => boolean
+- {"type":"integer"} => integer
+- {"type":"string"} => string
+"#,
+};
+
 #[test]
 fn simple_kinds(rt: HostRuntime) {
-    let rows = &[
-        (r#"true"#, "any"),
-        (r#"false"#, "nothing"),
-        (r#"{"type":"null"}"#, "null"),
-        (r#"{"type":"boolean"}"#, "boolean"),
-        (r#"{"type":"integer"}"#, "integer"),
-        (r#"{"type":"string"}"#, "string"),
-    ];
-    are_noted(&rt, rt.alloc(), rows);
+    each_row(&rt, rt.alloc(), &SIMPLE_KINDS, &mut NotedAmply);
 }
+
+/// A shape of lists, and its notation.
+const LISTS: Table = Table {
+    rows: 7,
+    text: r#"
+- {"type":"array"} => [..any]
+- {"type":"array","items":false} => []
+- {"type":"array","items":{"type":"string"}} => [..string]
+- {"type":"array","prefixItems":[{"type":"integer"},{"type":"string"}],"minItems":2,"items":false}
+  => [integer, string]
+- {"type":"array","prefixItems":[{"type":"integer"},true],"minItems":2} => [integer, any, ..any]
+- {"type":"array","prefixItems":[false],"minItems":1} => nothing
+- {"type":"array","items":{"type":["string","null"]}} => [..string | null]
+"#,
+};
 
 #[test]
 fn lists(rt: HostRuntime) {
-    let rows = &[
-        (r#"{"type":"array"}"#, "[..any]"),
-        (r#"{"type":"array","items":false}"#, "[]"),
-        (
-            r#"{"type":"array","items":{"type":"string"}}"#,
-            "[..string]",
-        ),
-        (
-            r#"{"type":"array","prefixItems":[{"type":"integer"},{"type":"string"}],"minItems":2,"items":false}"#,
-            "[integer, string]",
-        ),
-        (
-            r#"{"type":"array","prefixItems":[{"type":"integer"},true],"minItems":2}"#,
-            "[integer, any, ..any]",
-        ),
-        (
-            r#"{"type":"array","prefixItems":[false],"minItems":1}"#,
-            "nothing",
-        ),
-        (
-            r#"{"type":"array","items":{"type":["string","null"]}}"#,
-            "[..string | null]",
-        ),
-    ];
-    are_noted(&rt, rt.alloc(), rows);
+    each_row(&rt, rt.alloc(), &LISTS, &mut NotedAmply);
 }
+
+/// A shape of objects, and its notation.
+const OBJECTS: Table = Table {
+    rows: 6,
+    text: r#"
+- {"type":"object"} => {..}
+- {"type":"object","additionalProperties":false} => {}
+- {"type":"object","properties":{"name":{"type":"string"},"age":{"type":"integer"}},
+                "required":["name"],"additionalProperties":false}
+  => {age?: integer, name: string}
+- {"type":"object","properties":{"name":{"type":"string"}},"required":["name"]} => {name: string, ..}
+- {"type":"object","properties":{"age":false}} => {age?: nothing, ..}
+- {"type":"object","properties":{"age":false},"required":["age"]} => nothing
+"#,
+};
 
 #[test]
 fn objects(rt: HostRuntime) {
-    let rows = &[
-        (r#"{"type":"object"}"#, "{..}"),
-        (r#"{"type":"object","additionalProperties":false}"#, "{}"),
-        (
-            r#"{"type":"object","properties":{"name":{"type":"string"},"age":{"type":"integer"}},
-                "required":["name"],"additionalProperties":false}"#,
-            "{age?: integer, name: string}",
-        ),
-        (
-            r#"{"type":"object","properties":{"name":{"type":"string"}},"required":["name"]}"#,
-            "{name: string, ..}",
-        ),
-        (
-            r#"{"type":"object","properties":{"age":false}}"#,
-            "{age?: nothing, ..}",
-        ),
-        (
-            r#"{"type":"object","properties":{"age":false},"required":["age"]}"#,
-            "nothing",
-        ),
-    ];
-    are_noted(&rt, rt.alloc(), rows);
+    each_row(&rt, rt.alloc(), &OBJECTS, &mut NotedAmply);
 }
+
+/// A shape of several kinds, and its notation.
+const SEVERAL_KINDS: Table = Table {
+    rows: 5,
+    text: r#"
+- {"type":["string","null"]} => string | null
+- {"type":["null","object","array","string","integer","boolean"],"items":{"type":"integer"}}
+  => boolean | integer | string | [..integer] | {..} | null
+- {"type":["null","object","array","string","integer","boolean"]} => any
+- {"type":["array","null"],"prefixItems":[false],"minItems":1} => null
+- {"type":["object","null"],"properties":{"a":false},"required":["a"]} => null
+"#,
+};
 
 #[test]
 fn several_kinds_stand_in_one_order(rt: HostRuntime) {
-    let rows = &[
-        (r#"{"type":["string","null"]}"#, "string | null"),
-        (
-            r#"{"type":["null","object","array","string","integer","boolean"],"items":{"type":"integer"}}"#,
-            "boolean | integer | string | [..integer] | {..} | null",
-        ),
-        (
-            r#"{"type":["null","object","array","string","integer","boolean"]}"#,
-            "any",
-        ),
-        (
-            r#"{"type":["array","null"],"prefixItems":[false],"minItems":1}"#,
-            "null",
-        ),
-        (
-            r#"{"type":["object","null"],"properties":{"a":false},"required":["a"]}"#,
-            "null",
-        ),
-    ];
-    are_noted(&rt, rt.alloc(), rows);
+    each_row(&rt, rt.alloc(), &SEVERAL_KINDS, &mut NotedAmply);
 }
+
+/// A shape of objects with a field, and its notation.
+const NAMES: Table = Table {
+    rows: 8,
+    text: r#"
+- {"type":"object","properties":{"_a1":true}} => {_a1?: any, ..}
+- {"type":"object","properties":{"Z":true}} => {Z?: any, ..}
+- {"type":"object","properties":{"":true}} => {""?: any, ..}
+- {"type":"object","properties":{"1a":true}} => {"1a"?: any, ..}
+- {"type":"object","properties":{"a-b":true}} => {"a-b"?: any, ..}
+- {"type":"object","properties":{"größe":true}} => {"größe"?: any, ..}
+- {"type":"object","properties":{"a\"\n":true}} => {"a\"\n"?: any, ..}
+- {"type":"object","properties":{"…":true}} => {"…"?: any, ..}
+"#,
+};
 
 #[test]
 fn names_that_are_no_words_are_quoted(rt: HostRuntime) {
-    let rows = &[
-        (
-            r#"{"type":"object","properties":{"_a1":true}}"#,
-            "{_a1?: any, ..}",
-        ),
-        (
-            r#"{"type":"object","properties":{"Z":true}}"#,
-            "{Z?: any, ..}",
-        ),
-        (
-            r#"{"type":"object","properties":{"":true}}"#,
-            r#"{""?: any, ..}"#,
-        ),
-        (
-            r#"{"type":"object","properties":{"1a":true}}"#,
-            r#"{"1a"?: any, ..}"#,
-        ),
-        (
-            r#"{"type":"object","properties":{"a-b":true}}"#,
-            r#"{"a-b"?: any, ..}"#,
-        ),
-        (
-            r#"{"type":"object","properties":{"größe":true}}"#,
-            r#"{"größe"?: any, ..}"#,
-        ),
-        (
-            r#"{"type":"object","properties":{"a\"\n":true}}"#,
-            r#"{"a\"\n"?: any, ..}"#,
-        ),
-        (
-            r#"{"type":"object","properties":{"…":true}}"#,
-            r#"{"…"?: any, ..}"#,
-        ),
-    ];
-    are_noted(&rt, rt.alloc(), rows);
+    each_row(&rt, rt.alloc(), &NAMES, &mut NotedAmply);
 }
 
 /// An object with an object, a list and lists in a list.
@@ -192,7 +158,7 @@ fn noted_to(rt: &impl Abort, alloc: Global, depth: usize) -> String {
 fn levels_below_the_depth_are_not_told(rt: HostRuntime) {
     let alloc = rt.alloc();
     for (depth, wanted) in &BY_DEPTH {
-        expect_text(&rt, noted_to(&rt, alloc, *depth), wanted, NESTED);
+        expect_text(&rt, noted_to(&rt, alloc, *depth), wanted, &[NESTED]);
     }
 }
 
@@ -233,7 +199,7 @@ fn what_is_beyond_the_width_is_not_told(rt: HostRuntime) {
             &rt,
             noted_within(&rt, alloc, spelling, *width),
             wanted,
-            spelling,
+            &[spelling],
         );
     }
 }
@@ -266,7 +232,7 @@ fn shared_parts_cost_no_more_than_the_limits(rt: HostRuntime) {
         &rt,
         text,
         "[[[…], …, ..[…]], …, ..[[…], …, ..[…]]]",
-        "doubled",
+        &["doubled"],
     );
 }
 
@@ -274,5 +240,5 @@ fn shared_parts_cost_no_more_than_the_limits(rt: HostRuntime) {
 fn a_number_without_a_shape_is_nothing(rt: HostRuntime) {
     let shapes = Shapes::new(rt.alloc());
     let text = note(rt.alloc(), &shapes, 0, AMPLE).expect(&rt, "a notation");
-    expect_text(&rt, text, "nothing", "no shape");
+    expect_text(&rt, text, "nothing", &["no shape"]);
 }

@@ -1,6 +1,7 @@
 //! Shapes in a table: their numbers, their nodes, the shapes again, how they compare and join, which trees show what they
 //! say, and how they are read from their spellings, each call once with ample memory.
 use crate::expecting::{expect_answer, expect_text, printed};
+use crate::tables::{Row, Rows, Table, each_row, three, two};
 use asl_numbered::{Node, NodeField, NumberedRefusal, Shapes};
 use asl_shape::{Shape, ShapeRefusal, read, write};
 use asl_tree::{Tree, to_text};
@@ -218,69 +219,42 @@ fn shared_parts(rt: HostRuntime) {
 }
 
 /// Two shapes and what they are joined to.
-const JOINED: [(&str, &str, &str); 13] = [
-    (
-        r#"{"type":"array","prefixItems":[{"type":"null"},{"type":"integer"}],"minItems":2,"items":{"type":"integer"}}"#,
-        r#"{"type":"array","prefixItems":[{"type":"boolean"}],"minItems":1,"items":false}"#,
-        r#"{"items":{"type":"integer"},"minItems":1,"prefixItems":[{"type":["boolean","null"]}],"type":"array"}"#,
-    ),
-    (
-        r#"{"type":"array","items":{"type":"string"}}"#,
-        r#"{"type":"array","prefixItems":[{"type":"string"},{"type":"string"}],"minItems":2,"items":false}"#,
-        r#"{"items":{"type":"string"},"type":"array"}"#,
-    ),
-    (
-        r#"{"type":"object","properties":{"a":{"type":"integer"},"b":{"type":"string"},"c":{"type":"null"}},"required":["a","b"],"additionalProperties":false}"#,
-        r#"{"type":"object","properties":{"a":{"type":"integer"},"b":{"type":"string"},"d":{"type":"boolean"}},"required":["a","d"],"additionalProperties":false}"#,
-        r#"{"additionalProperties":false,"properties":{"a":{"type":"integer"},"b":{"type":"string"},"c":{"type":"null"},"d":{"type":"boolean"}},"required":["a"],"type":"object"}"#,
-    ),
-    (
-        r#"{"type":"object","properties":{"a":{"type":"integer"},"b":{"type":"null"}},"required":["a"],"additionalProperties":false}"#,
-        r#"{"type":"object","properties":{"a":{"type":"string"},"d":{"type":"boolean"}},"required":["a"]}"#,
-        r#"{"properties":{"a":{"type":["integer","string"]},"d":{"type":"boolean"}},"required":["a"],"type":"object"}"#,
-    ),
-    (
-        r#"{"type":"object","properties":{"a":{"type":"array","items":{"type":"integer"}},"b":{"type":"array","items":{"type":"string"}}},"required":["a"]}"#,
-        r#"{"type":"object","properties":{"a":{"type":"array","items":{"type":"null"}},"b":{"type":"array","items":{"type":"string"}}},"required":["a"]}"#,
-        r#"{"properties":{"a":{"items":{"type":["integer","null"]},"type":"array"},"b":{"items":{"type":"string"},"type":"array"}},"required":["a"],"type":"object"}"#,
-    ),
-    (
-        r#"{"type":"array","prefixItems":[false],"minItems":1}"#,
-        r#"{"type":"integer"}"#,
-        r#"{"type":"integer"}"#,
-    ),
-    (
-        r#"{"type":"array","items":{"type":"integer"}}"#,
-        r#"{"type":"object"}"#,
-        r#"{"items":{"type":"integer"},"type":["array","object"]}"#,
-    ),
-    (
-        r#"{"type":"integer"}"#,
-        r#"{"type":"string"}"#,
-        r#"{"type":["integer","string"]}"#,
-    ),
-    (r#"{"type":["integer","string"]}"#, "true", "true"),
-    (
-        r#"{"type":["array","null"],"prefixItems":[false],"minItems":1}"#,
-        r#"{"type":"null"}"#,
-        r#"{"type":"null"}"#,
-    ),
-    (
-        r#"{"type":["array","integer"],"prefixItems":[false],"minItems":1}"#,
-        r#"{"type":["array","null"],"items":{"type":"string"}}"#,
-        r#"{"items":{"type":"string"},"type":["array","integer","null"]}"#,
-    ),
-    (
-        r#"{"type":["array","object"],"items":{"type":"integer"},"properties":{"a":{"type":"null"}},"required":["a"],"additionalProperties":false}"#,
-        r#"{"type":["object","array","string"],"prefixItems":[{"type":"null"}],"minItems":1,"items":false,"additionalProperties":false}"#,
-        r#"{"additionalProperties":false,"items":{"type":["integer","null"]},"properties":{"a":{"type":"null"}},"type":["array","object","string"]}"#,
-    ),
-    (
-        r#"{"type":["null","object"],"required":["a"]}"#,
-        r#"{"type":["boolean","object"],"properties":{"a":{"type":"integer"}},"required":["a"],"additionalProperties":false}"#,
-        r#"{"properties":{"a":true},"required":["a"],"type":["boolean","null","object"]}"#,
-    ),
-];
+const JOINED: Table = Table {
+    rows: 13,
+    text: r#"
+- {"type":"array","prefixItems":[{"type":"null"},{"type":"integer"}],"minItems":2,"items":{"type":"integer"}}
+  => {"type":"array","prefixItems":[{"type":"boolean"}],"minItems":1,"items":false}
+  => {"items":{"type":"integer"},"minItems":1,"prefixItems":[{"type":["boolean","null"]}],"type":"array"}
+- {"type":"array","items":{"type":"string"}}
+  => {"type":"array","prefixItems":[{"type":"string"},{"type":"string"}],"minItems":2,"items":false}
+  => {"items":{"type":"string"},"type":"array"}
+- {"type":"object","properties":{"a":{"type":"integer"},"b":{"type":"string"},"c":{"type":"null"}},"required":["a","b"],"additionalProperties":false}
+  => {"type":"object","properties":{"a":{"type":"integer"},"b":{"type":"string"},"d":{"type":"boolean"}},"required":["a","d"],"additionalProperties":false}
+  => {"additionalProperties":false,"properties":{"a":{"type":"integer"},"b":{"type":"string"},"c":{"type":"null"},"d":{"type":"boolean"}},"required":["a"],"type":"object"}
+- {"type":"object","properties":{"a":{"type":"integer"},"b":{"type":"null"}},"required":["a"],"additionalProperties":false}
+  => {"type":"object","properties":{"a":{"type":"string"},"d":{"type":"boolean"}},"required":["a"]}
+  => {"properties":{"a":{"type":["integer","string"]},"d":{"type":"boolean"}},"required":["a"],"type":"object"}
+- {"type":"object","properties":{"a":{"type":"array","items":{"type":"integer"}},"b":{"type":"array","items":{"type":"string"}}},"required":["a"]}
+  => {"type":"object","properties":{"a":{"type":"array","items":{"type":"null"}},"b":{"type":"array","items":{"type":"string"}}},"required":["a"]}
+  => {"properties":{"a":{"items":{"type":["integer","null"]},"type":"array"},"b":{"items":{"type":"string"},"type":"array"}},"required":["a"],"type":"object"}
+- {"type":"array","prefixItems":[false],"minItems":1} => {"type":"integer"} => {"type":"integer"}
+- {"type":"array","items":{"type":"integer"}}
+  => {"type":"object"}
+  => {"items":{"type":"integer"},"type":["array","object"]}
+- {"type":"integer"} => {"type":"string"} => {"type":["integer","string"]}
+- {"type":["integer","string"]} => true => true
+- {"type":["array","null"],"prefixItems":[false],"minItems":1} => {"type":"null"} => {"type":"null"}
+- {"type":["array","integer"],"prefixItems":[false],"minItems":1}
+  => {"type":["array","null"],"items":{"type":"string"}}
+  => {"items":{"type":"string"},"type":["array","integer","null"]}
+- {"type":["array","object"],"items":{"type":"integer"},"properties":{"a":{"type":"null"}},"required":["a"],"additionalProperties":false}
+  => {"type":["object","array","string"],"prefixItems":[{"type":"null"}],"minItems":1,"items":false,"additionalProperties":false}
+  => {"additionalProperties":false,"items":{"type":["integer","null"]},"properties":{"a":{"type":"null"}},"type":["array","object","string"]}
+- {"type":["null","object"],"required":["a"]}
+  => {"type":["boolean","object"],"properties":{"a":{"type":"integer"}},"required":["a"],"additionalProperties":false}
+  => {"properties":{"a":true},"required":["a"],"type":["boolean","null","object"]}
+"#,
+};
 
 /// The shape of the join is the wanted one.
 fn expect_join(
@@ -309,13 +283,23 @@ fn expect_joins(
     expect_join(rt, alloc, shapes, [second, first], wanted, &[right, left]);
 }
 
+/// The join of the two shapes in this table, and of the second with the first, is the wanted one.
+#[derive(Drop)]
+struct JoinedIn {
+    shapes: Shapes,
+}
+
+impl Rows for JoinedIn {
+    fn expect(&mut self, rt: &impl Abort, alloc: Global, row: Row) {
+        let (left, right, wanted) = three(rt, row);
+        expect_joins(rt, alloc, &mut self.shapes, [left, right], wanted);
+    }
+}
+
 #[test]
 fn joins_as_worked_out_by_hand(rt: HostRuntime) {
-    let alloc = rt.alloc();
-    let mut shapes = Shapes::new(alloc);
-    for (left, right, wanted) in &JOINED {
-        expect_joins(&rt, alloc, &mut shapes, [left, right], wanted);
-    }
+    let shapes = Shapes::new(rt.alloc());
+    each_row(&rt, rt.alloc(), &JOINED, &mut JoinedIn { shapes });
 }
 
 /// The number of a list of lists of lists and so on, so many of them, over the shape of that number.
@@ -448,100 +432,53 @@ const EXAMPLES: [(&str, &str); 7] = [
 ];
 
 /// Two shapes, and a value of the first that lacks the second, or `none`.
-const OUTSIDE: [(&str, &str, &str); 20] = [
-    (r#"{"type":"integer"}"#, "true", "none"),
-    ("true", r#"{"type":"integer"}"#, "[]"),
-    (
-        r#"{"type":"integer"}"#,
-        r#"{"type":["null","string"]}"#,
-        "0",
-    ),
-    (
-        "true",
-        r#"{"type":["array","boolean","integer","null","object","string"]}"#,
-        "none",
-    ),
-    (
-        "true",
-        r#"{"type":["boolean","integer","null","object","string"]}"#,
-        "[]",
-    ),
-    (
-        "true",
-        r#"{"type":["array","boolean","integer","null","object","string"],"required":["a"]}"#,
-        "{}",
-    ),
-    (
-        r#"{"type":"array","items":{"type":"integer"}}"#,
-        r#"{"type":"array","items":{"type":"string"}}"#,
-        "[0]",
-    ),
-    (
-        r#"{"type":"array","items":{"type":"integer"}}"#,
-        r#"{"type":"array","prefixItems":[{"type":"integer"}],"minItems":1,"items":{"type":"integer"}}"#,
-        "[]",
-    ),
-    (
-        r#"{"type":"array","prefixItems":[{"type":"integer"},{"type":["null","string"]},true],"minItems":3}"#,
-        r#"{"type":"array","prefixItems":[{"type":"integer"},{"type":"null"}],"minItems":2}"#,
-        r#"[0,"",null]"#,
-    ),
-    (
-        r#"{"type":"array","prefixItems":[{"type":"integer"}],"minItems":1}"#,
-        r#"{"type":"array","prefixItems":[{"type":"integer"}],"minItems":1,"items":false}"#,
-        "[0,[]]",
-    ),
-    (
-        r#"{"type":"array","items":false}"#,
-        r#"{"type":["array","null"],"prefixItems":[false],"minItems":1}"#,
-        "[]",
-    ),
-    (
-        r#"{"type":"object","properties":{"a":{"type":"integer"},"b":{"type":"integer"}},"required":["a"]}"#,
-        r#"{"type":"object","properties":{"a":{"type":"integer"},"b":{"type":"string"}}}"#,
-        r#"{"a":0,"b":0}"#,
-    ),
-    (
-        r#"{"type":"object","required":["c"]}"#,
-        r#"{"type":"object","properties":{"a":true,"b":{"type":"integer"}}}"#,
-        r#"{"b":[],"c":null}"#,
-    ),
-    (
-        r#"{"type":"object","properties":{"a":false,"b":true},"additionalProperties":false}"#,
-        r#"{"type":"object","additionalProperties":false}"#,
-        r#"{"b":[]}"#,
-    ),
-    (
-        r#"{"type":"object","properties":{"a":false},"additionalProperties":false}"#,
-        r#"{"type":"object","additionalProperties":false}"#,
-        "none",
-    ),
-    (
-        r#"{"type":"object","properties":{"a":{"type":"integer"}},"required":["a"]}"#,
-        r#"{"type":"object","properties":{"a":{"type":"integer"}},"required":["a"],"additionalProperties":false}"#,
-        r#"{"a":0,"aa":null}"#,
-    ),
-    (
-        r#"{"type":"object"}"#,
-        r#"{"type":"object","additionalProperties":false}"#,
-        r#"{"a":null}"#,
-    ),
-    (
-        r#"{"type":"object","properties":{"a":{"type":"integer"}}}"#,
-        r#"{"type":"object","properties":{"a":{"type":"integer"},"aa":true},"additionalProperties":false}"#,
-        r#"{"aaa":null}"#,
-    ),
-    (
-        r#"{"type":"object","properties":{"b":{"type":"array","items":{"type":"object","properties":{"c":{"type":"integer"}},"required":["c"]}}},"required":["b"]}"#,
-        r#"{"type":"object","properties":{"b":{"type":"array","items":{"type":"object","properties":{"c":{"type":"string"}},"required":["c"]}}}}"#,
-        r#"{"b":[{"c":0}]}"#,
-    ),
-    (
-        r#"{"type":["array","null"],"items":{"type":["integer","string"]}}"#,
-        r#"{"type":["array","null"],"items":{"type":"integer"}}"#,
-        r#"[""]"#,
-    ),
-];
+const OUTSIDE: Table = Table {
+    rows: 20,
+    text: r#"
+- {"type":"integer"} => true => none
+- true => {"type":"integer"} => []
+- {"type":"integer"} => {"type":["null","string"]} => 0
+- true => {"type":["array","boolean","integer","null","object","string"]} => none
+- true => {"type":["boolean","integer","null","object","string"]} => []
+- true => {"type":["array","boolean","integer","null","object","string"],"required":["a"]} => {}
+- {"type":"array","items":{"type":"integer"}} => {"type":"array","items":{"type":"string"}} => [0]
+- {"type":"array","items":{"type":"integer"}}
+  => {"type":"array","prefixItems":[{"type":"integer"}],"minItems":1,"items":{"type":"integer"}}
+  => []
+- {"type":"array","prefixItems":[{"type":"integer"},{"type":["null","string"]},true],"minItems":3}
+  => {"type":"array","prefixItems":[{"type":"integer"},{"type":"null"}],"minItems":2}
+  => [0,"",null]
+- {"type":"array","prefixItems":[{"type":"integer"}],"minItems":1}
+  => {"type":"array","prefixItems":[{"type":"integer"}],"minItems":1,"items":false}
+  => [0,[]]
+- {"type":"array","items":false} => {"type":["array","null"],"prefixItems":[false],"minItems":1} => []
+- {"type":"object","properties":{"a":{"type":"integer"},"b":{"type":"integer"}},"required":["a"]}
+  => {"type":"object","properties":{"a":{"type":"integer"},"b":{"type":"string"}}}
+  => {"a":0,"b":0}
+- {"type":"object","required":["c"]}
+  => {"type":"object","properties":{"a":true,"b":{"type":"integer"}}}
+  => {"b":[],"c":null}
+- {"type":"object","properties":{"a":false,"b":true},"additionalProperties":false}
+  => {"type":"object","additionalProperties":false}
+  => {"b":[]}
+- {"type":"object","properties":{"a":false},"additionalProperties":false}
+  => {"type":"object","additionalProperties":false}
+  => none
+- {"type":"object","properties":{"a":{"type":"integer"}},"required":["a"]}
+  => {"type":"object","properties":{"a":{"type":"integer"}},"required":["a"],"additionalProperties":false}
+  => {"a":0,"aa":null}
+- {"type":"object"} => {"type":"object","additionalProperties":false} => {"a":null}
+- {"type":"object","properties":{"a":{"type":"integer"}}}
+  => {"type":"object","properties":{"a":{"type":"integer"},"aa":true},"additionalProperties":false}
+  => {"aaa":null}
+- {"type":"object","properties":{"b":{"type":"array","items":{"type":"object","properties":{"c":{"type":"integer"}},"required":["c"]}}},"required":["b"]}
+  => {"type":"object","properties":{"b":{"type":"array","items":{"type":"object","properties":{"c":{"type":"string"}},"required":["c"]}}}}
+  => {"b":[{"c":0}]}
+- {"type":["array","null"],"items":{"type":["integer","string"]}}
+  => {"type":["array","null"],"items":{"type":"integer"}}
+  => [""]
+"#,
+};
 
 /// The text of the tree, or `none`.
 fn text_of(rt: &impl Abort, alloc: Global, tree: &Option<Tree>) -> String {
@@ -610,13 +547,23 @@ fn expect_outside(
     expect_inside(rt, shapes, [inner, outer], Some(wanted == "none"), &given);
 }
 
+/// The value of the first shape of this table that lacks the second is the wanted one.
+#[derive(Drop)]
+struct OutsideIn {
+    shapes: Shapes,
+}
+
+impl Rows for OutsideIn {
+    fn expect(&mut self, rt: &impl Abort, alloc: Global, row: Row) {
+        let (first, second, wanted) = three(rt, row);
+        expect_outside(rt, alloc, &mut self.shapes, [first, second], wanted);
+    }
+}
+
 #[test]
 fn values_outside_as_worked_out_by_hand(rt: HostRuntime) {
-    let alloc = rt.alloc();
-    let mut shapes = Shapes::new(alloc);
-    for (first, second, wanted) in &OUTSIDE {
-        expect_outside(&rt, alloc, &mut shapes, [first, second], wanted);
-    }
+    let shapes = Shapes::new(rt.alloc());
+    each_row(&rt, rt.alloc(), &OUTSIDE, &mut OutsideIn { shapes });
 }
 
 #[test]
@@ -781,50 +728,46 @@ fn answered(
 }
 
 /// A spelling that is read behind those above it, where 0 is given, the number of `integer`, and what comes of it.
-const REFERRING: [(&str, &str); 12] = [
-    (r#"{"shape":0}"#, r#"0 {"type":"integer"}"#),
-    (r#"{"shape":1}"#, "BadNumber"),
-    (r#"{"shape":-1}"#, "BadNumber"),
-    (r#"{"shape":"0"}"#, "BadNumber"),
-    (r#"{"shape":0,"title":"x"}"#, "Shape(BadType)"),
-    (
-        r#"{"type":"array","prefixItems":[{"shape":0},{"type":"string"}],"minItems":2}"#,
-        r#"3 {"minItems":2,"prefixItems":[{"type":"integer"},{"type":"string"}],"type":"array"}"#,
-    ),
-    (
-        r#"{"type":"array","items":{"type":"array","items":{"shape":2}}}"#,
-        "BadNumber",
-    ),
-    (
-        r#"{"type":"object","properties":{"b":{"shape":0}},"required":["b","a"]}"#,
-        r#"4 {"properties":{"a":true,"b":{"type":"integer"}},"required":["a","b"],"type":"object"}"#,
-    ),
-    (
-        r#"{"type":"object","properties":{"shape":{"shape":0}}}"#,
-        r#"5 {"properties":{"shape":{"type":"integer"}},"type":"object"}"#,
-    ),
-    (
-        r#"{"type":"integer","default":{"shape":7}}"#,
-        r#"0 {"type":"integer"}"#,
-    ),
-    (
-        r#"{"type":"object","required":["a","a"]}"#,
-        "Shape(NotAShape)",
-    ),
-    (
-        r#"{"type":["null","array"],"items":{"shape":2}}"#,
-        "BadNumber",
-    ),
-];
+const REFERRING: Table = Table {
+    rows: 12,
+    text: r#"
+- {"shape":0} => 0 {"type":"integer"}
+- {"shape":1} => BadNumber
+- {"shape":-1} => BadNumber
+- {"shape":"0"} => BadNumber
+- {"shape":0,"title":"x"} => Shape(BadType)
+- {"type":"array","prefixItems":[{"shape":0},{"type":"string"}],"minItems":2}
+  => 3 {"minItems":2,"prefixItems":[{"type":"integer"},{"type":"string"}],"type":"array"}
+- {"type":"array","items":{"type":"array","items":{"shape":2}}} => BadNumber
+- {"type":"object","properties":{"b":{"shape":0}},"required":["b","a"]}
+  => 4 {"properties":{"a":true,"b":{"type":"integer"}},"required":["a","b"],"type":"object"}
+- {"type":"object","properties":{"shape":{"shape":0}}}
+  => 5 {"properties":{"shape":{"type":"integer"}},"type":"object"}
+- {"type":"integer","default":{"shape":7}} => 0 {"type":"integer"}
+- {"type":"object","required":["a","a"]} => Shape(NotAShape)
+- {"type":["null","array"],"items":{"shape":2}} => BadNumber
+"#,
+};
+
+/// What comes of reading the text into this table, where 0 is given, is what is wanted.
+#[derive(Drop)]
+struct ReadInto {
+    shapes: Shapes,
+}
+
+impl Rows for ReadInto {
+    fn expect(&mut self, rt: &impl Abort, alloc: Global, row: Row) {
+        let (text, wanted) = two(rt, row);
+        let answer = read_over(rt, alloc, &mut self.shapes, text, 0);
+        let told = answered(rt, alloc, &self.shapes, answer);
+        expect_text(rt, told, wanted, &[text]);
+    }
+}
 
 #[test]
 fn references_stand_for_given_shapes(rt: HostRuntime) {
-    let alloc = rt.alloc();
-    let mut shapes = integers(&rt, alloc);
-    for (text, wanted) in &REFERRING {
-        let answer = read_over(&rt, alloc, &mut shapes, text, 0);
-        expect_text(&rt, answered(&rt, alloc, &shapes, answer), wanted, &[text]);
-    }
+    let shapes = integers(&rt, rt.alloc());
+    each_row(&rt, rt.alloc(), &REFERRING, &mut ReadInto { shapes });
 }
 
 #[test]

@@ -1,5 +1,6 @@
 //! Vectors for declared shapes and certificates: what is written for them, and that it reads as the same.
 use crate::expecting::{expect_text, printed};
+use crate::tables::{Row, Rows, Table, each_row, two};
 use asl_numbered::{Node, Shapes};
 use asl_records::{
     Certificate, Declared, NumberedCertificate, number_certificate, read_certificate,
@@ -100,80 +101,71 @@ fn certificate_printed(rt: &impl Abort, alloc: Global, value: Value) -> String {
 }
 
 /// A certificate, and what is written for it.
-const CERTIFICATES: [(&str, &str); 11] = [
-    (
-        r#"{"version":1,"output":{"type":"integer"},"states":{"A":{"input":{"type":"integer"},"output":{"type":"integer"}}}}"#,
-        r#"{"output":{"type":"integer"},"states":{"A":{"input":{"type":"integer"},"output":{"type":"integer"}}},"version":1}"#,
-    ),
-    (
-        r#"{"output":{"items":false,"minItems":2,"prefixItems":[{"type":"integer"},{"type":"string"}],"type":"array"},"states":{"P":{"branches":[{"type":"integer"},{"type":"string"}],"input":{"type":"integer"},"output":{"items":false,"minItems":2,"prefixItems":[{"type":"integer"},{"type":"string"}],"type":"array"}},"T0":{"input":{"type":"integer"},"output":{"type":"integer"}},"T1":{"input":{"type":"integer"},"output":{"type":"string"}}},"version":1}"#,
-        r#"{"output":{"items":false,"minItems":2,"prefixItems":[{"type":"integer"},{"type":"string"}],"type":"array"},"states":{"P":{"branches":[{"type":"integer"},{"type":"string"}],"input":{"type":"integer"},"output":{"items":false,"minItems":2,"prefixItems":[{"type":"integer"},{"type":"string"}],"type":"array"}},"T0":{"input":{"type":"integer"},"output":{"type":"integer"}},"T1":{"input":{"type":"integer"},"output":{"type":"string"}}},"version":1}"#,
-    ),
-    (
-        r#"{"version":1,"states":{"M":{"branches":[],"output":true,"item":false,"input":{}}},"output":true}"#,
-        r#"{"output":true,"states":{"M":{"input":true,"item":false,"output":true}},"version":1}"#,
-    ),
-    (
-        r#"{"version":1,"shapes":[{"type":"integer"},{"type":"array","items":{"shape":0}},false],"output":{"shape":1},"states":{"A":{"branches":[{"shape":0}],"input":{"shape":2},"item":{"type":"array","items":{"shape":1}},"output":{"shape":1}}}}"#,
-        r#"{"output":{"items":{"type":"integer"},"type":"array"},"states":{"A":{"branches":[{"type":"integer"}],"input":false,"item":{"items":{"items":{"type":"integer"},"type":"array"},"type":"array"},"output":{"items":{"type":"integer"},"type":"array"}}},"version":1}"#,
-    ),
-    (
-        r#"{"version":1,"shapes":[],"output":true,"states":{}}"#,
-        r#"{"output":true,"states":{},"version":1}"#,
-    ),
-    (
-        r#"{"version":2,"output":{"type":["integer"]},"states":{"A":{"input":true,"output":false}}}"#,
-        r#"{"output":{"type":"integer"},"states":{"A":{"input":true,"output":false}},"version":1}"#,
-    ),
-    (
-        r#"{"version":2,"output":{"type":["string","integer"]},"states":{}}"#,
-        r#"{"output":{"type":["integer","string"]},"states":{},"version":2}"#,
-    ),
-    (
-        r#"{"version":2,"output":true,"states":{"M":{"input":true,"item":{"type":"array","items":{"type":"object","properties":{"a":{"type":["null","boolean"]}}}},"output":true}}}"#,
-        r#"{"output":true,"states":{"M":{"input":true,"item":{"items":{"properties":{"a":{"type":["boolean","null"]}},"type":"object"},"type":"array"},"output":true}},"version":2}"#,
-    ),
-    (
-        r#"{"version":2,"output":true,"states":{"P":{"branches":[true,{"type":["array","null"],"prefixItems":[false],"minItems":1}],"input":true,"output":true}}}"#,
-        r#"{"output":true,"states":{"P":{"branches":[true,{"minItems":1,"prefixItems":[false],"type":["array","null"]}],"input":true,"output":true}},"version":2}"#,
-    ),
-    (
-        r#"{"version":2,"shapes":[{"type":["null","string"]},{"type":["array","integer"],"items":{"shape":0}},true],"output":{"shape":2},"states":{}}"#,
-        r#"{"output":true,"states":{},"version":1}"#,
-    ),
-    (
-        r#"{"version":2,"shapes":[{"type":["null","string"]},{"type":["array","integer"],"items":{"shape":0}}],"output":{"shape":1},"states":{}}"#,
-        r#"{"output":{"items":{"type":["null","string"]},"type":["array","integer"]},"states":{},"version":2}"#,
-    ),
-];
+const CERTIFICATES: Table = Table {
+    rows: 11,
+    text: r#"
+- {"version":1,"output":{"type":"integer"},"states":{"A":{"input":{"type":"integer"},"output":{"type":"integer"}}}}
+  => {"output":{"type":"integer"},"states":{"A":{"input":{"type":"integer"},"output":{"type":"integer"}}},"version":1}
+- {"output":{"items":false,"minItems":2,"prefixItems":[{"type":"integer"},{"type":"string"}],"type":"array"},"states":{"P":{"branches":[{"type":"integer"},{"type":"string"}],"input":{"type":"integer"},"output":{"items":false,"minItems":2,"prefixItems":[{"type":"integer"},{"type":"string"}],"type":"array"}},"T0":{"input":{"type":"integer"},"output":{"type":"integer"}},"T1":{"input":{"type":"integer"},"output":{"type":"string"}}},"version":1}
+  => {"output":{"items":false,"minItems":2,"prefixItems":[{"type":"integer"},{"type":"string"}],"type":"array"},"states":{"P":{"branches":[{"type":"integer"},{"type":"string"}],"input":{"type":"integer"},"output":{"items":false,"minItems":2,"prefixItems":[{"type":"integer"},{"type":"string"}],"type":"array"}},"T0":{"input":{"type":"integer"},"output":{"type":"integer"}},"T1":{"input":{"type":"integer"},"output":{"type":"string"}}},"version":1}
+- {"version":1,"states":{"M":{"branches":[],"output":true,"item":false,"input":{}}},"output":true}
+  => {"output":true,"states":{"M":{"input":true,"item":false,"output":true}},"version":1}
+- {"version":1,"shapes":[{"type":"integer"},{"type":"array","items":{"shape":0}},false],"output":{"shape":1},"states":{"A":{"branches":[{"shape":0}],"input":{"shape":2},"item":{"type":"array","items":{"shape":1}},"output":{"shape":1}}}}
+  => {"output":{"items":{"type":"integer"},"type":"array"},"states":{"A":{"branches":[{"type":"integer"}],"input":false,"item":{"items":{"items":{"type":"integer"},"type":"array"},"type":"array"},"output":{"items":{"type":"integer"},"type":"array"}}},"version":1}
+- {"version":1,"shapes":[],"output":true,"states":{}} => {"output":true,"states":{},"version":1}
+- {"version":2,"output":{"type":["integer"]},"states":{"A":{"input":true,"output":false}}}
+  => {"output":{"type":"integer"},"states":{"A":{"input":true,"output":false}},"version":1}
+- {"version":2,"output":{"type":["string","integer"]},"states":{}}
+  => {"output":{"type":["integer","string"]},"states":{},"version":2}
+- {"version":2,"output":true,"states":{"M":{"input":true,"item":{"type":"array","items":{"type":"object","properties":{"a":{"type":["null","boolean"]}}}},"output":true}}}
+  => {"output":true,"states":{"M":{"input":true,"item":{"items":{"properties":{"a":{"type":["boolean","null"]}},"type":"object"},"type":"array"},"output":true}},"version":2}
+- {"version":2,"output":true,"states":{"P":{"branches":[true,{"type":["array","null"],"prefixItems":[false],"minItems":1}],"input":true,"output":true}}}
+  => {"output":true,"states":{"P":{"branches":[true,{"minItems":1,"prefixItems":[false],"type":["array","null"]}],"input":true,"output":true}},"version":2}
+- {"version":2,"shapes":[{"type":["null","string"]},{"type":["array","integer"],"items":{"shape":0}},true],"output":{"shape":2},"states":{}}
+  => {"output":true,"states":{},"version":1}
+- {"version":2,"shapes":[{"type":["null","string"]},{"type":["array","integer"],"items":{"shape":0}}],"output":{"shape":1},"states":{}}
+  => {"output":{"items":{"type":["null","string"]},"type":["array","integer"]},"states":{},"version":2}
+"#,
+};
 
-#[test]
-fn certificates(rt: HostRuntime) {
-    let alloc = rt.alloc();
-    for (text, wanted) in &CERTIFICATES {
-        let tree = certificate_written(&rt, alloc, text);
-        expect_text(&rt, text_of(&rt, alloc, &tree), wanted, &[text]);
+/// What is written for the certificate is what is wanted.
+#[derive(Drop)]
+struct Written;
+
+impl Rows for Written {
+    fn expect(&mut self, rt: &impl Abort, alloc: Global, row: Row) {
+        let (text, wanted) = two(rt, row);
+        let tree = certificate_written(rt, alloc, text);
+        expect_text(rt, text_of(rt, alloc, &tree), wanted, &[text]);
     }
 }
 
+#[test]
+fn certificates(rt: HostRuntime) {
+    each_row(&rt, rt.alloc(), &CERTIFICATES, &mut Written);
+}
+
 /// What is written for the certificate in the text reads as the same.
-fn expect_certificate_again(rt: &impl Abort, alloc: Global, text: &str) {
-    let written = value_of(rt, alloc, &certificate_written(rt, alloc, text));
-    let wanted = certificate_printed(rt, alloc, value(rt, alloc, text));
-    expect_text(
-        rt,
-        certificate_printed(rt, alloc, written),
-        &wanted,
-        &[text],
-    );
+#[derive(Drop)]
+struct ReadAgain;
+
+impl Rows for ReadAgain {
+    fn expect(&mut self, rt: &impl Abort, alloc: Global, row: Row) {
+        let (text, _) = two(rt, row);
+        let written = value_of(rt, alloc, &certificate_written(rt, alloc, text));
+        let wanted = certificate_printed(rt, alloc, value(rt, alloc, text));
+        expect_text(
+            rt,
+            certificate_printed(rt, alloc, written),
+            &wanted,
+            &[text],
+        );
+    }
 }
 
 #[test]
 fn certificates_read_back(rt: HostRuntime) {
-    let alloc = rt.alloc();
-    for (text, _) in &CERTIFICATES {
-        expect_certificate_again(&rt, alloc, text);
-    }
+    each_row(&rt, rt.alloc(), &CERTIFICATES, &mut ReadAgain);
 }
 
 /// How the refusal of the certificate in the text is printed.
@@ -217,47 +209,42 @@ fn wrong_references(rt: HostRuntime) {
 }
 
 /// A certificate that its version refuses, and the refusal.
-const VERSIONS: [(&str, &str); 8] = [
-    (
-        r#"{"version":1,"output":{"type":["integer","string"]},"states":{}}"#,
-        r#"Record(RecordRefusal { fault: BadShape(BadType), name: "", field: "output" })"#,
-    ),
-    (
-        r#"{"version":1,"output":{"type":["integer"]},"states":{}}"#,
-        r#"Record(RecordRefusal { fault: BadShape(BadType), name: "", field: "output" })"#,
-    ),
-    (
-        r#"{"version":1,"shapes":[true,{"type":["integer","string"]}],"output":{"shape":0},"states":{}}"#,
-        r#"Record(RecordRefusal { fault: BadShape(BadType), name: "", field: "shapes" })"#,
-    ),
-    (
-        r#"{"version":1,"output":true,"states":{"A":{"input":{"type":"array","items":{"type":["null","string"]}},"output":true}}}"#,
-        r#"Record(RecordRefusal { fault: BadShape(BadType), name: "A", field: "input" })"#,
-    ),
-    (
-        r#"{"output":true,"states":{"A":{"branches":[{"type":["null","string"]}],"input":true,"output":true}},"version":1}"#,
-        r#"Record(RecordRefusal { fault: BadShape(BadType), name: "A", field: "branches" })"#,
-    ),
-    (
-        r#"{"version":2,"output":{"type":["integer","integer"]},"states":{}}"#,
-        r#"Record(RecordRefusal { fault: BadShape(BadType), name: "", field: "output" })"#,
-    ),
-    (
-        r#"{"version":2,"output":{"type":["integer","null"],"items":true},"states":{}}"#,
-        r#"Record(RecordRefusal { fault: BadShape(Keyword), name: "", field: "output" })"#,
-    ),
-    (
-        r#"{"version":3,"output":true,"states":{}}"#,
-        r#"Record(RecordRefusal { fault: BadVersion, name: "", field: "version" })"#,
-    ),
-];
+const VERSIONS: Table = Table {
+    rows: 8,
+    text: r#"
+- {"version":1,"output":{"type":["integer","string"]},"states":{}}
+  => Record(RecordRefusal { fault: BadShape(BadType), name: "", field: "output" })
+- {"version":1,"output":{"type":["integer"]},"states":{}}
+  => Record(RecordRefusal { fault: BadShape(BadType), name: "", field: "output" })
+- {"version":1,"shapes":[true,{"type":["integer","string"]}],"output":{"shape":0},"states":{}}
+  => Record(RecordRefusal { fault: BadShape(BadType), name: "", field: "shapes" })
+- {"version":1,"output":true,"states":{"A":{"input":{"type":"array","items":{"type":["null","string"]}},"output":true}}}
+  => Record(RecordRefusal { fault: BadShape(BadType), name: "A", field: "input" })
+- {"output":true,"states":{"A":{"branches":[{"type":["null","string"]}],"input":true,"output":true}},"version":1}
+  => Record(RecordRefusal { fault: BadShape(BadType), name: "A", field: "branches" })
+- {"version":2,"output":{"type":["integer","integer"]},"states":{}}
+  => Record(RecordRefusal { fault: BadShape(BadType), name: "", field: "output" })
+- {"version":2,"output":{"type":["integer","null"],"items":true},"states":{}}
+  => Record(RecordRefusal { fault: BadShape(Keyword), name: "", field: "output" })
+- {"version":3,"output":true,"states":{}}
+  => Record(RecordRefusal { fault: BadVersion, name: "", field: "version" })
+"#,
+};
+
+/// The refusal of the certificate is the one that is wanted.
+#[derive(Drop)]
+struct Refused;
+
+impl Rows for Refused {
+    fn expect(&mut self, rt: &impl Abort, alloc: Global, row: Row) {
+        let (text, wanted) = two(rt, row);
+        expect_text(rt, refusal_of(rt, alloc, text), wanted, &[text]);
+    }
+}
 
 #[test]
 fn versions(rt: HostRuntime) {
-    let alloc = rt.alloc();
-    for (text, wanted) in &VERSIONS {
-        expect_text(&rt, refusal_of(&rt, alloc, text), wanted, &[text]);
-    }
+    each_row(&rt, rt.alloc(), &VERSIONS, &mut Refused);
 }
 
 /// The certificate as it is written with its shapes listed.

@@ -1,6 +1,7 @@
 //! Vectors for shapes: what each spelling reads as, the tests of shapes on a few pairs, which trees show what shapes say,
 //! and what is copied, written and joined, each call once with ample memory.
-use crate::expecting::{expect_answer, expect_text};
+use crate::expecting::{expect_answer, expect_text, printed};
+use crate::tables::{Row, Rows, Table, each_row, three, two};
 use asl_shape::{
     OwnedKinds, Shape, ShapeRefusal, copy, example, has, inhabited, join, of_kinds, outside,
     proper, read, read_v1, read_value, read_value_v1, same, sub, take_apart, write,
@@ -10,123 +11,64 @@ use serde_json::Value;
 use std::alloc::Global;
 use std::process::Abort;
 
-const REFUSED: [(&str, ShapeRefusal); 23] = [
-    (
-        r#"{"type":"array","prefixItems":[true],"minItems":0}"#,
-        ShapeRefusal::MinItems,
-    ),
-    (
-        r#"{"type":"array","prefixItems":[true]}"#,
-        ShapeRefusal::MinItems,
-    ),
-    (r#"{"type":"array","minItems":-1}"#, ShapeRefusal::MinItems),
-    (r#"{"type":"number"}"#, ShapeRefusal::BadType),
-    (r#"{"type":[]}"#, ShapeRefusal::BadType),
-    (r#"{"type":["null","null"]}"#, ShapeRefusal::BadType),
-    (r#"{"type":["null","number"]}"#, ShapeRefusal::BadType),
-    (r#"{"type":["null",7]}"#, ShapeRefusal::BadType),
-    (r#"{"type":["null",["string"]]}"#, ShapeRefusal::BadType),
-    (r#"{"colour":1}"#, ShapeRefusal::BadType),
-    (r#"{"items":true}"#, ShapeRefusal::BadType),
-    (r#"{"type":"string","colour":1}"#, ShapeRefusal::Keyword),
-    (r#"{"type":"object","items":true}"#, ShapeRefusal::Keyword),
-    (
-        r#"{"type":["null","string"],"items":true}"#,
-        ShapeRefusal::Keyword,
-    ),
-    (
-        r#"{"type":["array","null"],"required":[]}"#,
-        ShapeRefusal::Keyword,
-    ),
-    (
-        r#"{"type":["null","array"],"prefixItems":[true]}"#,
-        ShapeRefusal::MinItems,
-    ),
-    ("7", ShapeRefusal::NotAShape),
-    (r#"{"type":null}"#, ShapeRefusal::NotAShape),
-    (r#"{"type":7}"#, ShapeRefusal::NotAShape),
-    (
-        r#"{"type":["object","array"],"properties":[]}"#,
-        ShapeRefusal::NotAShape,
-    ),
-    (
-        r#"{"type":"object","required":["a","a"]}"#,
-        ShapeRefusal::NotAShape,
-    ),
-    (
-        r#"{"type":"object","additionalProperties":{}}"#,
-        ShapeRefusal::NotAShape,
-    ),
-    (
-        r#"{"type":"array","minItems":"0"}"#,
-        ShapeRefusal::NotAShape,
-    ),
-];
+const REFUSED: Table = Table {
+    rows: 23,
+    text: r#"
+- {"type":"array","prefixItems":[true],"minItems":0} => MinItems
+- {"type":"array","prefixItems":[true]} => MinItems
+- {"type":"array","minItems":-1} => MinItems
+- {"type":"number"} => BadType
+- {"type":[]} => BadType
+- {"type":["null","null"]} => BadType
+- {"type":["null","number"]} => BadType
+- {"type":["null",7]} => BadType
+- {"type":["null",["string"]]} => BadType
+- {"colour":1} => BadType
+- {"items":true} => BadType
+- {"type":"string","colour":1} => Keyword
+- {"type":"object","items":true} => Keyword
+- {"type":["null","string"],"items":true} => Keyword
+- {"type":["array","null"],"required":[]} => Keyword
+- {"type":["null","array"],"prefixItems":[true]} => MinItems
+- 7 => NotAShape
+- {"type":null} => NotAShape
+- {"type":7} => NotAShape
+- {"type":["object","array"],"properties":[]} => NotAShape
+- {"type":"object","required":["a","a"]} => NotAShape
+- {"type":"object","additionalProperties":{}} => NotAShape
+- {"type":"array","minItems":"0"} => NotAShape
+"#,
+};
 
-const MEMBERS: [(&str, &str, bool); 22] = [
-    ("true", "null", true),
-    (r#"{"title":1}"#, "[]", true),
-    ("false", "null", false),
-    (r#"{"type":"integer"}"#, "7", true),
-    (r#"{"type":"integer"}"#, r#""7""#, false),
-    (r#"{"type":"array"}"#, "[1,null]", true),
-    (
-        r#"{"type":"array","prefixItems":[{"type":"null"}],"minItems":1,"items":{"type":"boolean"}}"#,
-        "[null,true,false]",
-        true,
-    ),
-    (
-        r#"{"type":"array","prefixItems":[{"type":"null"}],"minItems":1,"items":{"type":"boolean"}}"#,
-        "[]",
-        false,
-    ),
-    (
-        r#"{"type":"array","prefixItems":[{"type":"null"}],"minItems":1,"items":{"type":"boolean"}}"#,
-        "[null,null]",
-        false,
-    ),
-    (
-        r#"{"type":"object","properties":{"a":{"type":"string"}}}"#,
-        r#"{"b":1}"#,
-        true,
-    ),
-    (
-        r#"{"type":"object","properties":{"a":{"type":"string"}}}"#,
-        r#"{"a":1}"#,
-        false,
-    ),
-    (r#"{"type":"object","required":["a"]}"#, r#"{"a":1}"#, true),
-    (r#"{"type":"object","required":["a"]}"#, r#"{"b":1}"#, false),
-    (
-        r#"{"type":"object","properties":{"a":true},"additionalProperties":false}"#,
-        r#"{"b":1}"#,
-        false,
-    ),
-    (r#"{"type":["null","string"]}"#, "null", true),
-    (r#"{"type":["null","string"]}"#, r#""x""#, true),
-    (r#"{"type":["null","string"]}"#, "0", false),
-    (r#"{"type":["null","string"]}"#, "[]", false),
-    (
-        r#"{"type":["array","object"],"items":{"type":"integer"},"required":["a"]}"#,
-        "[1,2]",
-        true,
-    ),
-    (
-        r#"{"type":["array","object"],"items":{"type":"integer"},"required":["a"]}"#,
-        r#"["a"]"#,
-        false,
-    ),
-    (
-        r#"{"type":["array","object"],"items":{"type":"integer"},"required":["a"]}"#,
-        r#"{"a":"x"}"#,
-        true,
-    ),
-    (
-        r#"{"type":["array","object"],"items":{"type":"integer"},"required":["a"]}"#,
-        "{}",
-        false,
-    ),
-];
+const MEMBERS: Table = Table {
+    rows: 22,
+    text: r#"
+- true => null => true
+- {"title":1} => [] => true
+- false => null => false
+- {"type":"integer"} => 7 => true
+- {"type":"integer"} => "7" => false
+- {"type":"array"} => [1,null] => true
+- {"type":"array","prefixItems":[{"type":"null"}],"minItems":1,"items":{"type":"boolean"}}
+  => [null,true,false]
+  => true
+- {"type":"array","prefixItems":[{"type":"null"}],"minItems":1,"items":{"type":"boolean"}} => [] => false
+- {"type":"array","prefixItems":[{"type":"null"}],"minItems":1,"items":{"type":"boolean"}} => [null,null] => false
+- {"type":"object","properties":{"a":{"type":"string"}}} => {"b":1} => true
+- {"type":"object","properties":{"a":{"type":"string"}}} => {"a":1} => false
+- {"type":"object","required":["a"]} => {"a":1} => true
+- {"type":"object","required":["a"]} => {"b":1} => false
+- {"type":"object","properties":{"a":true},"additionalProperties":false} => {"b":1} => false
+- {"type":["null","string"]} => null => true
+- {"type":["null","string"]} => "x" => true
+- {"type":["null","string"]} => 0 => false
+- {"type":["null","string"]} => [] => false
+- {"type":["array","object"],"items":{"type":"integer"},"required":["a"]} => [1,2] => true
+- {"type":["array","object"],"items":{"type":"integer"},"required":["a"]} => ["a"] => false
+- {"type":["array","object"],"items":{"type":"integer"},"required":["a"]} => {"a":"x"} => true
+- {"type":["array","object"],"items":{"type":"integer"},"required":["a"]} => {} => false
+"#,
+};
 
 const INHABITED: [(&str, bool); 7] = [
     ("true", true),
@@ -147,237 +89,134 @@ const INHABITED: [(&str, bool); 7] = [
     ),
 ];
 
-const INSIDE: [(&str, &str, bool); 17] = [
-    (r#"{"type":"integer"}"#, "true", true),
-    ("true", r#"{"type":"integer"}"#, false),
-    ("false", r#"{"type":"integer"}"#, true),
-    (
-        r#"{"type":"array","prefixItems":[{"type":"integer"}],"minItems":1,"items":{"type":"integer"}}"#,
-        r#"{"type":"array","items":{"type":"integer"}}"#,
-        true,
-    ),
-    (
-        r#"{"type":"array","items":{"type":"integer"}}"#,
-        r#"{"type":"array","prefixItems":[{"type":"integer"}],"minItems":1,"items":{"type":"integer"}}"#,
-        false,
-    ),
-    (
-        r#"{"type":"object","properties":{"a":{"type":"integer"}},"required":["a"]}"#,
-        r#"{"type":"object","properties":{"a":{"type":"integer"}}}"#,
-        true,
-    ),
-    (
-        r#"{"type":"object","properties":{"a":{"type":"integer"}}}"#,
-        r#"{"type":"object","properties":{"a":{"type":"integer"}},"required":["a"]}"#,
-        false,
-    ),
-    (
-        r#"{"type":"object"}"#,
-        r#"{"type":"object","properties":{"a":{"type":"integer"}}}"#,
-        false,
-    ),
-    (
-        r#"{"type":"object","properties":{"a":false}}"#,
-        r#"{"type":"object","additionalProperties":false}"#,
-        false,
-    ),
-    (r#"{"type":"null"}"#, r#"{"type":["null","string"]}"#, true),
-    (r#"{"type":["null","string"]}"#, r#"{"type":"null"}"#, false),
-    (
-        r#"{"type":["null","string"]}"#,
-        r#"{"type":["string","integer","null"]}"#,
-        true,
-    ),
-    (
-        r#"{"type":["array","null"],"prefixItems":[false],"minItems":1}"#,
-        r#"{"type":"null"}"#,
-        true,
-    ),
-    (
-        r#"{"type":["array","null"],"items":{"type":"integer"}}"#,
-        r#"{"type":["array","null"],"items":{"type":["integer","string"]}}"#,
-        true,
-    ),
-    (
-        r#"{"type":["array","null"],"items":{"type":["integer","string"]}}"#,
-        r#"{"type":["array","null"],"items":{"type":"integer"}}"#,
-        false,
-    ),
-    (
-        r#"{"type":"array","items":false}"#,
-        r#"{"type":["array","null"],"prefixItems":[false],"minItems":1}"#,
-        false,
-    ),
-    (r#"{"type":["integer","null"]}"#, "true", true),
-];
+const INSIDE: Table = Table {
+    rows: 17,
+    text: r#"
+- {"type":"integer"} => true => true
+- true => {"type":"integer"} => false
+- false => {"type":"integer"} => true
+- {"type":"array","prefixItems":[{"type":"integer"}],"minItems":1,"items":{"type":"integer"}}
+  => {"type":"array","items":{"type":"integer"}}
+  => true
+- {"type":"array","items":{"type":"integer"}}
+  => {"type":"array","prefixItems":[{"type":"integer"}],"minItems":1,"items":{"type":"integer"}}
+  => false
+- {"type":"object","properties":{"a":{"type":"integer"}},"required":["a"]}
+  => {"type":"object","properties":{"a":{"type":"integer"}}}
+  => true
+- {"type":"object","properties":{"a":{"type":"integer"}}}
+  => {"type":"object","properties":{"a":{"type":"integer"}},"required":["a"]}
+  => false
+- {"type":"object"} => {"type":"object","properties":{"a":{"type":"integer"}}} => false
+- {"type":"object","properties":{"a":false}} => {"type":"object","additionalProperties":false} => false
+- {"type":"null"} => {"type":["null","string"]} => true
+- {"type":["null","string"]} => {"type":"null"} => false
+- {"type":["null","string"]} => {"type":["string","integer","null"]} => true
+- {"type":["array","null"],"prefixItems":[false],"minItems":1} => {"type":"null"} => true
+- {"type":["array","null"],"items":{"type":"integer"}}
+  => {"type":["array","null"],"items":{"type":["integer","string"]}}
+  => true
+- {"type":["array","null"],"items":{"type":["integer","string"]}}
+  => {"type":["array","null"],"items":{"type":"integer"}}
+  => false
+- {"type":"array","items":false} => {"type":["array","null"],"prefixItems":[false],"minItems":1} => false
+- {"type":["integer","null"]} => true => true
+"#,
+};
 
-const DIFFERENT: [(&str, &str); 9] = [
-    ("true", "false"),
-    (r#"{"type":"integer"}"#, r#"{"type":"string"}"#),
-    (r#"{"type":"integer"}"#, r#"{"type":["integer","string"]}"#),
-    (
-        r#"{"type":["integer","null"]}"#,
-        r#"{"type":["integer","string"]}"#,
-    ),
-    (
-        r#"{"type":["array","null"],"prefixItems":[false],"minItems":1}"#,
-        r#"{"type":"null"}"#,
-    ),
-    (
-        r#"{"type":"array","prefixItems":[{"type":"null"}],"minItems":1,"items":{"type":"null"}}"#,
-        r#"{"type":"array","items":{"type":"null"}}"#,
-    ),
-    (
-        r#"{"type":"object","properties":{"a":{"type":"integer"}},"required":["a"]}"#,
-        r#"{"type":"object","properties":{"a":{"type":"integer"}}}"#,
-    ),
-    (
-        r#"{"type":"object","properties":{"a":true}}"#,
-        r#"{"type":"object","properties":{"b":true}}"#,
-    ),
-    (
-        r#"{"type":"object"}"#,
-        r#"{"type":"object","additionalProperties":false}"#,
-    ),
-];
+const DIFFERENT: Table = Table {
+    rows: 9,
+    text: r#"
+- true => false
+- {"type":"integer"} => {"type":"string"}
+- {"type":"integer"} => {"type":["integer","string"]}
+- {"type":["integer","null"]} => {"type":["integer","string"]}
+- {"type":["array","null"],"prefixItems":[false],"minItems":1} => {"type":"null"}
+- {"type":"array","prefixItems":[{"type":"null"}],"minItems":1,"items":{"type":"null"}}
+  => {"type":"array","items":{"type":"null"}}
+- {"type":"object","properties":{"a":{"type":"integer"}},"required":["a"]}
+  => {"type":"object","properties":{"a":{"type":"integer"}}}
+- {"type":"object","properties":{"a":true}} => {"type":"object","properties":{"b":true}}
+- {"type":"object"} => {"type":"object","additionalProperties":false}
+"#,
+};
 
-const WRITTEN: [(&str, &str); 15] = [
-    ("true", "true"),
-    (r#"{"title":1}"#, "true"),
-    ("false", "false"),
-    (r#"{"type":"null"}"#, r#"{"type":"null"}"#),
-    (r#"{"type":"boolean"}"#, r#"{"type":"boolean"}"#),
-    (r#"{"type":"integer"}"#, r#"{"type":"integer"}"#),
-    (r#"{"type":"string"}"#, r#"{"type":"string"}"#),
-    (
-        r#"{"type":"object","properties":{"b":{"type":"string"},"a":{"type":"integer"}},"required":["a"],"additionalProperties":false}"#,
-        r#"{"additionalProperties":false,"properties":{"a":{"type":"integer"},"b":{"type":"string"}},"required":["a"],"type":"object"}"#,
-    ),
-    (
-        r#"{"type":"object","required":["b","a"]}"#,
-        r#"{"properties":{"a":true,"b":true},"required":["a","b"],"type":"object"}"#,
-    ),
-    (
-        r#"{"type":"array","prefixItems":[{"type":"integer"},{"type":"string"}],"minItems":2,"items":false}"#,
-        r#"{"items":false,"minItems":2,"prefixItems":[{"type":"integer"},{"type":"string"}],"type":"array"}"#,
-    ),
-    (
-        r#"{"type":"array","minItems":0,"items":{"type":"object","properties":{"a":{"type":"array","items":true}}}}"#,
-        r#"{"items":{"properties":{"a":{"type":"array"}},"type":"object"},"type":"array"}"#,
-    ),
-    (
-        r#"{"type":["string","null"]}"#,
-        r#"{"type":["null","string"]}"#,
-    ),
-    (r#"{"type":["integer"]}"#, r#"{"type":"integer"}"#),
-    (
-        r#"{"type":["string","object","null","integer","boolean","array"]}"#,
-        r#"{"type":["array","boolean","integer","null","object","string"]}"#,
-    ),
-    (
-        r#"{"type":["object","array"],"required":["b","a"],"prefixItems":[{"type":["null","boolean"]}],"minItems":1,"items":false,"additionalProperties":false,"properties":{"a":true}}"#,
-        r#"{"additionalProperties":false,"items":false,"minItems":1,"prefixItems":[{"type":["boolean","null"]}],"properties":{"a":true,"b":false},"required":["a","b"],"type":["array","object"]}"#,
-    ),
-];
+const WRITTEN: Table = Table {
+    rows: 15,
+    text: r#"
+- true => true
+- {"title":1} => true
+- false => false
+- {"type":"null"} => {"type":"null"}
+- {"type":"boolean"} => {"type":"boolean"}
+- {"type":"integer"} => {"type":"integer"}
+- {"type":"string"} => {"type":"string"}
+- {"type":"object","properties":{"b":{"type":"string"},"a":{"type":"integer"}},"required":["a"],"additionalProperties":false}
+  => {"additionalProperties":false,"properties":{"a":{"type":"integer"},"b":{"type":"string"}},"required":["a"],"type":"object"}
+- {"type":"object","required":["b","a"]}
+  => {"properties":{"a":true,"b":true},"required":["a","b"],"type":"object"}
+- {"type":"array","prefixItems":[{"type":"integer"},{"type":"string"}],"minItems":2,"items":false}
+  => {"items":false,"minItems":2,"prefixItems":[{"type":"integer"},{"type":"string"}],"type":"array"}
+- {"type":"array","minItems":0,"items":{"type":"object","properties":{"a":{"type":"array","items":true}}}}
+  => {"items":{"properties":{"a":{"type":"array"}},"type":"object"},"type":"array"}
+- {"type":["string","null"]} => {"type":["null","string"]}
+- {"type":["integer"]} => {"type":"integer"}
+- {"type":["string","object","null","integer","boolean","array"]}
+  => {"type":["array","boolean","integer","null","object","string"]}
+- {"type":["object","array"],"required":["b","a"],"prefixItems":[{"type":["null","boolean"]}],"minItems":1,"items":false,"additionalProperties":false,"properties":{"a":true}}
+  => {"additionalProperties":false,"items":false,"minItems":1,"prefixItems":[{"type":["boolean","null"]}],"properties":{"a":true,"b":false},"required":["a","b"],"type":["array","object"]}
+"#,
+};
 
-const JOINED: [(&str, &str, &str); 20] = [
-    (
-        r#"{"type":"integer"}"#,
-        r#"{"type":"string"}"#,
-        r#"{"type":["integer","string"]}"#,
-    ),
-    (
-        r#"{"type":"integer"}"#,
-        r#"{"type":"integer"}"#,
-        r#"{"type":"integer"}"#,
-    ),
-    (
-        r#"{"type":"array"}"#,
-        r#"{"type":"object"}"#,
-        r#"{"type":["array","object"]}"#,
-    ),
-    (
-        r#"{"type":"integer"}"#,
-        r#"{"type":"array","prefixItems":[false],"minItems":1}"#,
-        r#"{"type":"integer"}"#,
-    ),
-    (
-        "false",
-        r#"{"type":"array","prefixItems":[false],"minItems":1}"#,
-        r#"{"minItems":1,"prefixItems":[false],"type":"array"}"#,
-    ),
-    (
-        r#"{"type":"array","prefixItems":[{"type":"integer"},{"type":"null"}],"minItems":2,"items":false}"#,
-        r#"{"type":"array","prefixItems":[{"type":"integer"}],"minItems":1,"items":false}"#,
-        r#"{"items":{"type":"null"},"minItems":1,"prefixItems":[{"type":"integer"}],"type":"array"}"#,
-    ),
-    (
-        r#"{"type":"array","items":{"type":"integer"}}"#,
-        r#"{"type":"array","prefixItems":[{"type":"integer"},{"type":"string"}],"minItems":2,"items":false}"#,
-        r#"{"items":{"type":["integer","string"]},"type":"array"}"#,
-    ),
-    (
-        r#"{"type":"object","properties":{"a":{"type":"integer"}},"required":["a"],"additionalProperties":false}"#,
-        r#"{"type":"object","additionalProperties":false}"#,
-        r#"{"additionalProperties":false,"properties":{"a":{"type":"integer"}},"type":"object"}"#,
-    ),
-    (
-        r#"{"type":"object","properties":{"b":{"type":"null"}},"additionalProperties":false}"#,
-        r#"{"type":"object","properties":{"a":{"type":"integer"},"c":true},"required":["a"],"additionalProperties":false}"#,
-        r#"{"additionalProperties":false,"properties":{"a":{"type":"integer"},"b":{"type":"null"},"c":true},"type":"object"}"#,
-    ),
-    (
-        r#"{"type":"object","properties":{"a":{"type":"integer"}},"required":["a"]}"#,
-        r#"{"type":"object","properties":{"b":{"type":"string"}},"additionalProperties":false}"#,
-        r#"{"properties":{"a":{"type":"integer"}},"type":"object"}"#,
-    ),
-    (
-        r#"{"type":"object","properties":{"a":{"type":"integer"}}}"#,
-        r#"{"type":"object"}"#,
-        r#"{"type":"object"}"#,
-    ),
-    (
-        r#"{"type":"object","properties":{"a":{"type":"null"},"b":{"type":"null"}},"required":["a","b"],"additionalProperties":false}"#,
-        r#"{"type":"object","properties":{"a":{"type":"null"},"b":{"type":"string"}},"required":["a"],"additionalProperties":false}"#,
-        r#"{"additionalProperties":false,"properties":{"a":{"type":"null"},"b":{"type":["null","string"]}},"required":["a"],"type":"object"}"#,
-    ),
-    (r#"{"type":["integer","null"]}"#, "true", "true"),
-    (
-        "false",
-        r#"{"type":["array","null"],"prefixItems":[false],"minItems":1}"#,
-        r#"{"minItems":1,"prefixItems":[false],"type":["array","null"]}"#,
-    ),
-    (
-        r#"{"type":"null"}"#,
-        r#"{"type":["array","null"],"prefixItems":[false],"minItems":1}"#,
-        r#"{"type":"null"}"#,
-    ),
-    (
-        r#"{"type":["array","integer"],"prefixItems":[false],"minItems":1}"#,
-        r#"{"type":["array","null"],"items":{"type":"string"}}"#,
-        r#"{"items":{"type":"string"},"type":["array","integer","null"]}"#,
-    ),
-    (
-        r#"{"type":["integer","string"]}"#,
-        r#"{"type":["boolean","integer"]}"#,
-        r#"{"type":["boolean","integer","string"]}"#,
-    ),
-    (
-        r#"{"type":["array","object"],"items":{"type":"integer"},"properties":{"a":{"type":"null"}},"required":["a"],"additionalProperties":false}"#,
-        r#"{"type":["object","array","string"],"prefixItems":[{"type":"null"}],"minItems":1,"items":false,"additionalProperties":false}"#,
-        r#"{"additionalProperties":false,"items":{"type":["integer","null"]},"properties":{"a":{"type":"null"}},"type":["array","object","string"]}"#,
-    ),
-    (
-        r#"{"type":["null","object"],"required":["a"]}"#,
-        r#"{"type":"array","items":false}"#,
-        r#"{"items":false,"properties":{"a":true},"required":["a"],"type":["array","null","object"]}"#,
-    ),
-    (
-        r#"{"type":["array","object"],"prefixItems":[false],"minItems":1,"properties":{"a":false},"required":["a"]}"#,
-        r#"{"type":"string"}"#,
-        r#"{"type":"string"}"#,
-    ),
-];
+const JOINED: Table = Table {
+    rows: 20,
+    text: r#"
+- {"type":"integer"} => {"type":"string"} => {"type":["integer","string"]}
+- {"type":"integer"} => {"type":"integer"} => {"type":"integer"}
+- {"type":"array"} => {"type":"object"} => {"type":["array","object"]}
+- {"type":"integer"} => {"type":"array","prefixItems":[false],"minItems":1} => {"type":"integer"}
+- false
+  => {"type":"array","prefixItems":[false],"minItems":1}
+  => {"minItems":1,"prefixItems":[false],"type":"array"}
+- {"type":"array","prefixItems":[{"type":"integer"},{"type":"null"}],"minItems":2,"items":false}
+  => {"type":"array","prefixItems":[{"type":"integer"}],"minItems":1,"items":false}
+  => {"items":{"type":"null"},"minItems":1,"prefixItems":[{"type":"integer"}],"type":"array"}
+- {"type":"array","items":{"type":"integer"}}
+  => {"type":"array","prefixItems":[{"type":"integer"},{"type":"string"}],"minItems":2,"items":false}
+  => {"items":{"type":["integer","string"]},"type":"array"}
+- {"type":"object","properties":{"a":{"type":"integer"}},"required":["a"],"additionalProperties":false}
+  => {"type":"object","additionalProperties":false}
+  => {"additionalProperties":false,"properties":{"a":{"type":"integer"}},"type":"object"}
+- {"type":"object","properties":{"b":{"type":"null"}},"additionalProperties":false}
+  => {"type":"object","properties":{"a":{"type":"integer"},"c":true},"required":["a"],"additionalProperties":false}
+  => {"additionalProperties":false,"properties":{"a":{"type":"integer"},"b":{"type":"null"},"c":true},"type":"object"}
+- {"type":"object","properties":{"a":{"type":"integer"}},"required":["a"]}
+  => {"type":"object","properties":{"b":{"type":"string"}},"additionalProperties":false}
+  => {"properties":{"a":{"type":"integer"}},"type":"object"}
+- {"type":"object","properties":{"a":{"type":"integer"}}} => {"type":"object"} => {"type":"object"}
+- {"type":"object","properties":{"a":{"type":"null"},"b":{"type":"null"}},"required":["a","b"],"additionalProperties":false}
+  => {"type":"object","properties":{"a":{"type":"null"},"b":{"type":"string"}},"required":["a"],"additionalProperties":false}
+  => {"additionalProperties":false,"properties":{"a":{"type":"null"},"b":{"type":["null","string"]}},"required":["a"],"type":"object"}
+- {"type":["integer","null"]} => true => true
+- false
+  => {"type":["array","null"],"prefixItems":[false],"minItems":1}
+  => {"minItems":1,"prefixItems":[false],"type":["array","null"]}
+- {"type":"null"} => {"type":["array","null"],"prefixItems":[false],"minItems":1} => {"type":"null"}
+- {"type":["array","integer"],"prefixItems":[false],"minItems":1}
+  => {"type":["array","null"],"items":{"type":"string"}}
+  => {"items":{"type":"string"},"type":["array","integer","null"]}
+- {"type":["integer","string"]} => {"type":["boolean","integer"]} => {"type":["boolean","integer","string"]}
+- {"type":["array","object"],"items":{"type":"integer"},"properties":{"a":{"type":"null"}},"required":["a"],"additionalProperties":false}
+  => {"type":["object","array","string"],"prefixItems":[{"type":"null"}],"minItems":1,"items":false,"additionalProperties":false}
+  => {"additionalProperties":false,"items":{"type":["integer","null"]},"properties":{"a":{"type":"null"}},"type":["array","object","string"]}
+- {"type":["null","object"],"required":["a"]}
+  => {"type":"array","items":false}
+  => {"items":false,"properties":{"a":true},"required":["a"],"type":["array","null","object"]}
+- {"type":["array","object"],"prefixItems":[false],"minItems":1,"properties":{"a":false},"required":["a"]}
+  => {"type":"string"}
+  => {"type":"string"}
+"#,
+};
 
 fn tree(rt: &impl Abort, alloc: Global, text: &str) -> Tree {
     asl_tree::read(alloc, text.as_bytes()).expect(rt, "a tree")
@@ -398,17 +237,33 @@ fn written(rt: &impl Abort, alloc: Global, shape: &Shape) -> String {
     to_text(alloc, &tree).expect(rt, "a text")
 }
 
-/// Whether the spelling is refused for this reason.
-fn is_refused(rt: &impl Abort, alloc: Global, text: &str, refusal: &ShapeRefusal) -> bool {
-    read(alloc, &tree(rt, alloc, text)).err().as_ref() == Some(refusal)
+/// Why a spelling is refused, or `none`.
+fn refusal_text(rt: &impl Abort, alloc: Global, refusal: Option<ShapeRefusal>) -> String {
+    match refusal {
+        Some(refusal) => printed(rt, alloc, &refusal),
+        None => String::from_str(alloc, "none").expect(rt, "memory"),
+    }
+}
+
+/// Why the spelling is refused, or `none`.
+fn refusal_of(rt: &impl Abort, alloc: Global, text: &str) -> String {
+    refusal_text(rt, alloc, read(alloc, &tree(rt, alloc, text)).err())
+}
+
+/// The spelling is refused for this reason.
+#[derive(Drop)]
+struct Refused;
+
+impl Rows for Refused {
+    fn expect(&mut self, rt: &impl Abort, alloc: Global, row: Row) {
+        let (text, wanted) = two(rt, row);
+        expect_text(rt, refusal_of(rt, alloc, text), wanted, &[text]);
+    }
 }
 
 #[test]
 fn spellings_are_refused(rt: HostRuntime) {
-    let alloc = rt.alloc();
-    for (text, refusal) in &REFUSED {
-        expect_answer(&rt, is_refused(&rt, alloc, text, refusal), true, &[text]);
-    }
+    each_row(&rt, rt.alloc(), &REFUSED, &mut Refused);
 }
 
 /// Whether the tree has the shape.
@@ -416,17 +271,21 @@ fn is_member(rt: &impl Abort, alloc: Global, text: &str, member: &str) -> bool {
     has(&shape(rt, alloc, text), &tree(rt, alloc, member))
 }
 
+/// Whether the tree has the shape is told as it is wanted.
+#[derive(Drop)]
+struct HasMember;
+
+impl Rows for HasMember {
+    fn expect(&mut self, rt: &impl Abort, alloc: Global, row: Row) {
+        let (text, member, wanted) = three(rt, row);
+        let told = printed(rt, alloc, &is_member(rt, alloc, text, member));
+        expect_text(rt, told, wanted, &[text, member]);
+    }
+}
+
 #[test]
 fn members_by_hand(rt: HostRuntime) {
-    let alloc = rt.alloc();
-    for (text, member, answer) in &MEMBERS {
-        expect_answer(
-            &rt,
-            is_member(&rt, alloc, text, member),
-            *answer,
-            &[text, member],
-        );
-    }
+    each_row(&rt, rt.alloc(), &MEMBERS, &mut HasMember);
 }
 
 #[test]
@@ -442,17 +301,21 @@ fn is_inside(rt: &impl Abort, alloc: Global, inner: &str, outer: &str) -> bool {
     sub(&shape(rt, alloc, inner), &shape(rt, alloc, outer))
 }
 
+/// Whether the first shape is inside the second is told as it is wanted.
+#[derive(Drop)]
+struct InsideAnother;
+
+impl Rows for InsideAnother {
+    fn expect(&mut self, rt: &impl Abort, alloc: Global, row: Row) {
+        let (inner, outer, wanted) = three(rt, row);
+        let told = printed(rt, alloc, &is_inside(rt, alloc, inner, outer));
+        expect_text(rt, told, wanted, &[inner, outer]);
+    }
+}
+
 #[test]
 fn inside_by_hand(rt: HostRuntime) {
-    let alloc = rt.alloc();
-    for (inner, outer, answer) in &INSIDE {
-        expect_answer(
-            &rt,
-            is_inside(&rt, alloc, inner, outer),
-            *answer,
-            &[inner, outer],
-        );
-    }
+    each_row(&rt, rt.alloc(), &INSIDE, &mut InsideAnother);
 }
 
 /// Whether the two shapes are the same.
@@ -460,17 +323,21 @@ fn is_same(rt: &impl Abort, alloc: Global, first: &str, second: &str) -> bool {
     same(&shape(rt, alloc, first), &shape(rt, alloc, second))
 }
 
+/// The two shapes differ.
+#[derive(Drop)]
+struct Different;
+
+impl Rows for Different {
+    fn expect(&mut self, rt: &impl Abort, alloc: Global, row: Row) {
+        let (first, second) = two(rt, row);
+        let answer = is_same(rt, alloc, first, second);
+        expect_answer(rt, answer, false, &[first, second]);
+    }
+}
+
 #[test]
 fn different_shapes(rt: HostRuntime) {
-    let alloc = rt.alloc();
-    for (first, second) in &DIFFERENT {
-        expect_answer(
-            &rt,
-            is_same(&rt, alloc, first, second),
-            false,
-            &[first, second],
-        );
-    }
+    each_row(&rt, rt.alloc(), &DIFFERENT, &mut Different);
 }
 
 /// What is written for a copy of the shape, which is the same.
@@ -481,12 +348,20 @@ fn written_of_copy(rt: &impl Abort, alloc: Global, text: &str) -> String {
     written(rt, alloc, &copied)
 }
 
+/// What is written for a copy of the shape is what is wanted.
+#[derive(Drop)]
+struct WrittenOfCopy;
+
+impl Rows for WrittenOfCopy {
+    fn expect(&mut self, rt: &impl Abort, alloc: Global, row: Row) {
+        let (text, wanted) = two(rt, row);
+        expect_text(rt, written_of_copy(rt, alloc, text), wanted, &[text]);
+    }
+}
+
 #[test]
 fn copies_are_written(rt: HostRuntime) {
-    let alloc = rt.alloc();
-    for (text, written) in &WRITTEN {
-        expect_text(&rt, written_of_copy(&rt, alloc, text), written, &[text]);
-    }
+    each_row(&rt, rt.alloc(), &WRITTEN, &mut WrittenOfCopy);
 }
 
 /// The join of the two shapes.
@@ -494,226 +369,125 @@ fn joined(rt: &impl Abort, alloc: Global, first: &str, second: &str) -> Shape {
     join(alloc, &shape(rt, alloc, first), &shape(rt, alloc, second)).expect(rt, "a join")
 }
 
-/// What is written for the join of the two shapes is the wanted text.
-fn expect_joined(rt: &impl Abort, alloc: Global, first: &str, second: &str, wanted: &str) {
-    let told = written(rt, alloc, &joined(rt, alloc, first, second));
-    expect_text(rt, told, wanted, &[first, second]);
+/// What is written for the join of the two shapes is what is wanted.
+#[derive(Drop)]
+struct WrittenOfJoin;
+
+impl Rows for WrittenOfJoin {
+    fn expect(&mut self, rt: &impl Abort, alloc: Global, row: Row) {
+        let (first, second, wanted) = three(rt, row);
+        let told = written(rt, alloc, &joined(rt, alloc, first, second));
+        expect_text(rt, told, wanted, &[first, second]);
+    }
 }
 
 #[test]
 fn joins_by_hand(rt: HostRuntime) {
-    let alloc = rt.alloc();
-    for (first, second, written) in &JOINED {
-        expect_joined(&rt, alloc, first, second, written);
-    }
+    each_row(&rt, rt.alloc(), &JOINED, &mut WrittenOfJoin);
 }
 
 /// A shape and its example, or `none`.
-const EXAMPLES: [(&str, &str); 20] = [
-    ("true", "null"),
-    ("false", "none"),
-    (r#"{"type":"null"}"#, "null"),
-    (r#"{"type":"boolean"}"#, "false"),
-    (r#"{"type":"integer"}"#, "0"),
-    (r#"{"type":"string"}"#, r#""""#),
-    (r#"{"type":"array"}"#, "[]"),
-    (r#"{"type":"object"}"#, "{}"),
-    (
-        r#"{"type":"array","prefixItems":[{"type":"integer"},{"type":"string"}],"minItems":2}"#,
-        r#"[0,""]"#,
-    ),
-    (
-        r#"{"type":"array","prefixItems":[false],"minItems":1}"#,
-        "none",
-    ),
-    (
-        r#"{"type":"object","properties":{"a":{"type":"integer"},"b":{"type":"boolean"},"c":true},"required":["b","c"]}"#,
-        r#"{"b":false,"c":null}"#,
-    ),
-    (
-        r#"{"type":"object","required":["a"],"additionalProperties":false}"#,
-        "none",
-    ),
-    (r#"{"type":["null","string"]}"#, "null"),
-    (r#"{"type":["object","string"]}"#, "{}"),
-    (r#"{"type":["string","object","integer"]}"#, "0"),
-    (r#"{"type":["null","boolean"]}"#, "false"),
-    (
-        r#"{"type":["array","string"],"prefixItems":[{"type":["null","object"]}],"minItems":1}"#,
-        "[null]",
-    ),
-    (
-        r#"{"type":["array","null"],"prefixItems":[false],"minItems":1}"#,
-        "null",
-    ),
-    (
-        r#"{"type":["object","string"],"properties":{"a":false},"required":["a"]}"#,
-        r#""""#,
-    ),
-    (
-        r#"{"type":["array","object"],"prefixItems":[false],"minItems":1,"required":["a"],"additionalProperties":false}"#,
-        "none",
-    ),
-];
+const EXAMPLES: Table = Table {
+    rows: 20,
+    text: r#"
+- true => null
+- false => none
+- {"type":"null"} => null
+- {"type":"boolean"} => false
+- {"type":"integer"} => 0
+- {"type":"string"} => ""
+- {"type":"array"} => []
+- {"type":"object"} => {}
+- {"type":"array","prefixItems":[{"type":"integer"},{"type":"string"}],"minItems":2} => [0,""]
+- {"type":"array","prefixItems":[false],"minItems":1} => none
+- {"type":"object","properties":{"a":{"type":"integer"},"b":{"type":"boolean"},"c":true},"required":["b","c"]}
+  => {"b":false,"c":null}
+- {"type":"object","required":["a"],"additionalProperties":false} => none
+- {"type":["null","string"]} => null
+- {"type":["object","string"]} => {}
+- {"type":["string","object","integer"]} => 0
+- {"type":["null","boolean"]} => false
+- {"type":["array","string"],"prefixItems":[{"type":["null","object"]}],"minItems":1} => [null]
+- {"type":["array","null"],"prefixItems":[false],"minItems":1} => null
+- {"type":["object","string"],"properties":{"a":false},"required":["a"]} => ""
+- {"type":["array","object"],"prefixItems":[false],"minItems":1,"required":["a"],"additionalProperties":false}
+  => none
+"#,
+};
 
 /// Two shapes, and a value of the first that lacks the second, or `none`.
-const OUTSIDE: [(&str, &str, &str); 35] = [
-    (r#"{"type":"integer"}"#, "true", "none"),
-    ("true", r#"{"type":"integer"}"#, "[]"),
-    ("false", r#"{"type":"null"}"#, "none"),
-    (r#"{"type":"integer"}"#, r#"{"type":"string"}"#, "0"),
-    (
-        r#"{"type":"integer"}"#,
-        r#"{"type":["null","string"]}"#,
-        "0",
-    ),
-    (
-        r#"{"type":["null","string"]}"#,
-        r#"{"type":"null"}"#,
-        r#""""#,
-    ),
-    (
-        r#"{"type":["boolean","integer","null"]}"#,
-        r#"{"type":"integer"}"#,
-        "false",
-    ),
-    (
-        "true",
-        r#"{"type":["array","boolean","integer","null","object","string"]}"#,
-        "none",
-    ),
-    (
-        "true",
-        r#"{"type":["boolean","integer","null","object","string"]}"#,
-        "[]",
-    ),
-    (
-        "true",
-        r#"{"type":["array","boolean","integer","null","object"]}"#,
-        r#""""#,
-    ),
-    (
-        "true",
-        r#"{"type":["array","integer","null","object","string"]}"#,
-        "false",
-    ),
-    (
-        "true",
-        r#"{"type":["array","boolean","integer","null","object","string"],"items":{"type":"integer"}}"#,
-        "[[]]",
-    ),
-    (
-        "true",
-        r#"{"type":["array","boolean","integer","null","object","string"],"required":["a"]}"#,
-        "{}",
-    ),
-    (
-        "true",
-        r#"{"type":["array","boolean","integer","null","object","string"],"additionalProperties":false}"#,
-        r#"{"a":null}"#,
-    ),
-    (
-        r#"{"type":"array","items":{"type":"integer"}}"#,
-        r#"{"type":"array","items":{"type":"string"}}"#,
-        "[0]",
-    ),
-    (
-        r#"{"type":"array","items":{"type":"integer"}}"#,
-        r#"{"type":"array","prefixItems":[{"type":"integer"}],"minItems":1,"items":{"type":"integer"}}"#,
-        "[]",
-    ),
-    (
-        r#"{"type":"array","prefixItems":[{"type":"integer"},{"type":"string"}],"minItems":2,"items":false}"#,
-        r#"{"type":"array","items":{"type":"integer"}}"#,
-        r#"[0,""]"#,
-    ),
-    (
-        r#"{"type":"array","prefixItems":[{"type":"integer"},{"type":["null","string"]},true],"minItems":3}"#,
-        r#"{"type":"array","prefixItems":[{"type":"integer"},{"type":"null"}],"minItems":2}"#,
-        r#"[0,"",null]"#,
-    ),
-    (
-        r#"{"type":"array","prefixItems":[{"type":"integer"}],"minItems":1}"#,
-        r#"{"type":"array","prefixItems":[{"type":"integer"}],"minItems":1,"items":false}"#,
-        "[0,[]]",
-    ),
-    (
-        r#"{"type":"array","prefixItems":[false],"minItems":1}"#,
-        r#"{"type":"integer"}"#,
-        "none",
-    ),
-    (
-        r#"{"type":"array","items":false}"#,
-        r#"{"type":["array","null"],"prefixItems":[false],"minItems":1}"#,
-        "[]",
-    ),
-    (r#"{"type":"object"}"#, r#"{"type":"null"}"#, "{}"),
-    (
-        r#"{"type":"object","properties":{"a":{"type":"integer"}}}"#,
-        r#"{"type":"object","properties":{"a":{"type":"integer"}},"required":["a"]}"#,
-        "{}",
-    ),
-    (
-        r#"{"type":"object","properties":{"a":{"type":"integer"},"b":{"type":"integer"}},"required":["a"]}"#,
-        r#"{"type":"object","properties":{"a":{"type":"integer"},"b":{"type":"string"}}}"#,
-        r#"{"a":0,"b":0}"#,
-    ),
-    (
-        r#"{"type":"object","required":["c"]}"#,
-        r#"{"type":"object","properties":{"a":true,"b":{"type":"integer"}}}"#,
-        r#"{"b":[],"c":null}"#,
-    ),
-    (
-        r#"{"type":"object","properties":{"a":{"type":"integer"}},"additionalProperties":false}"#,
-        r#"{"type":"object","additionalProperties":false}"#,
-        r#"{"a":0}"#,
-    ),
-    (
-        r#"{"type":"object","properties":{"a":false,"b":true},"additionalProperties":false}"#,
-        r#"{"type":"object","additionalProperties":false}"#,
-        r#"{"b":[]}"#,
-    ),
-    (
-        r#"{"type":"object","properties":{"a":false},"additionalProperties":false}"#,
-        r#"{"type":"object","additionalProperties":false}"#,
-        "none",
-    ),
-    (
-        r#"{"type":"object","properties":{"a":{"type":"integer"}},"required":["a"]}"#,
-        r#"{"type":"object","properties":{"a":{"type":"integer"}},"required":["a"],"additionalProperties":false}"#,
-        r#"{"a":0,"aa":null}"#,
-    ),
-    (
-        r#"{"type":"object"}"#,
-        r#"{"type":"object","additionalProperties":false}"#,
-        r#"{"a":null}"#,
-    ),
-    (
-        r#"{"type":"object","properties":{"a":{"type":"integer"}}}"#,
-        r#"{"type":"object","properties":{"a":{"type":"integer"},"aa":true},"additionalProperties":false}"#,
-        r#"{"aaa":null}"#,
-    ),
-    (
-        r#"{"type":"object","properties":{"b":{"type":"array","items":{"type":"object","properties":{"c":{"type":"integer"}},"required":["c"]}}},"required":["b"]}"#,
-        r#"{"type":"object","properties":{"b":{"type":"array","items":{"type":"object","properties":{"c":{"type":"string"}},"required":["c"]}}}}"#,
-        r#"{"b":[{"c":0}]}"#,
-    ),
-    (
-        r#"{"type":["array","null"],"items":{"type":["integer","string"]}}"#,
-        r#"{"type":["array","null"],"items":{"type":"integer"}}"#,
-        r#"[""]"#,
-    ),
-    (
-        r#"{"type":["null","object"],"required":["a"]}"#,
-        r#"{"type":["null","object"],"properties":{"a":{"type":"integer"}}}"#,
-        r#"{"a":[]}"#,
-    ),
-    (
-        r#"{"type":["object","string"]}"#,
-        r#"{"type":"object"}"#,
-        r#""""#,
-    ),
-];
+const OUTSIDE: Table = Table {
+    rows: 35,
+    text: r#"
+- {"type":"integer"} => true => none
+- true => {"type":"integer"} => []
+- false => {"type":"null"} => none
+- {"type":"integer"} => {"type":"string"} => 0
+- {"type":"integer"} => {"type":["null","string"]} => 0
+- {"type":["null","string"]} => {"type":"null"} => ""
+- {"type":["boolean","integer","null"]} => {"type":"integer"} => false
+- true => {"type":["array","boolean","integer","null","object","string"]} => none
+- true => {"type":["boolean","integer","null","object","string"]} => []
+- true => {"type":["array","boolean","integer","null","object"]} => ""
+- true => {"type":["array","integer","null","object","string"]} => false
+- true => {"type":["array","boolean","integer","null","object","string"],"items":{"type":"integer"}} => [[]]
+- true => {"type":["array","boolean","integer","null","object","string"],"required":["a"]} => {}
+- true
+  => {"type":["array","boolean","integer","null","object","string"],"additionalProperties":false}
+  => {"a":null}
+- {"type":"array","items":{"type":"integer"}} => {"type":"array","items":{"type":"string"}} => [0]
+- {"type":"array","items":{"type":"integer"}}
+  => {"type":"array","prefixItems":[{"type":"integer"}],"minItems":1,"items":{"type":"integer"}}
+  => []
+- {"type":"array","prefixItems":[{"type":"integer"},{"type":"string"}],"minItems":2,"items":false}
+  => {"type":"array","items":{"type":"integer"}}
+  => [0,""]
+- {"type":"array","prefixItems":[{"type":"integer"},{"type":["null","string"]},true],"minItems":3}
+  => {"type":"array","prefixItems":[{"type":"integer"},{"type":"null"}],"minItems":2}
+  => [0,"",null]
+- {"type":"array","prefixItems":[{"type":"integer"}],"minItems":1}
+  => {"type":"array","prefixItems":[{"type":"integer"}],"minItems":1,"items":false}
+  => [0,[]]
+- {"type":"array","prefixItems":[false],"minItems":1} => {"type":"integer"} => none
+- {"type":"array","items":false} => {"type":["array","null"],"prefixItems":[false],"minItems":1} => []
+- {"type":"object"} => {"type":"null"} => {}
+- {"type":"object","properties":{"a":{"type":"integer"}}}
+  => {"type":"object","properties":{"a":{"type":"integer"}},"required":["a"]}
+  => {}
+- {"type":"object","properties":{"a":{"type":"integer"},"b":{"type":"integer"}},"required":["a"]}
+  => {"type":"object","properties":{"a":{"type":"integer"},"b":{"type":"string"}}}
+  => {"a":0,"b":0}
+- {"type":"object","required":["c"]}
+  => {"type":"object","properties":{"a":true,"b":{"type":"integer"}}}
+  => {"b":[],"c":null}
+- {"type":"object","properties":{"a":{"type":"integer"}},"additionalProperties":false}
+  => {"type":"object","additionalProperties":false}
+  => {"a":0}
+- {"type":"object","properties":{"a":false,"b":true},"additionalProperties":false}
+  => {"type":"object","additionalProperties":false}
+  => {"b":[]}
+- {"type":"object","properties":{"a":false},"additionalProperties":false}
+  => {"type":"object","additionalProperties":false}
+  => none
+- {"type":"object","properties":{"a":{"type":"integer"}},"required":["a"]}
+  => {"type":"object","properties":{"a":{"type":"integer"}},"required":["a"],"additionalProperties":false}
+  => {"a":0,"aa":null}
+- {"type":"object"} => {"type":"object","additionalProperties":false} => {"a":null}
+- {"type":"object","properties":{"a":{"type":"integer"}}}
+  => {"type":"object","properties":{"a":{"type":"integer"},"aa":true},"additionalProperties":false}
+  => {"aaa":null}
+- {"type":"object","properties":{"b":{"type":"array","items":{"type":"object","properties":{"c":{"type":"integer"}},"required":["c"]}}},"required":["b"]}
+  => {"type":"object","properties":{"b":{"type":"array","items":{"type":"object","properties":{"c":{"type":"string"}},"required":["c"]}}}}
+  => {"b":[{"c":0}]}
+- {"type":["array","null"],"items":{"type":["integer","string"]}}
+  => {"type":["array","null"],"items":{"type":"integer"}}
+  => [""]
+- {"type":["null","object"],"required":["a"]}
+  => {"type":["null","object"],"properties":{"a":{"type":"integer"}}}
+  => {"a":[]}
+- {"type":["object","string"]} => {"type":"object"} => ""
+"#,
+};
 
 /// The text of the tree, or `none`.
 fn text_of(rt: &impl Abort, alloc: Global, tree: &Option<Tree>) -> String {
@@ -728,13 +502,21 @@ fn example_in(rt: &impl Abort, alloc: Global, given: &Shape) -> Option<Tree> {
     example(alloc, given).expect(rt, "an answer")
 }
 
+/// The shape's example, or `none`, is the one that is wanted.
+#[derive(Drop)]
+struct ExampleText;
+
+impl Rows for ExampleText {
+    fn expect(&mut self, rt: &impl Abort, alloc: Global, row: Row) {
+        let (text, wanted) = two(rt, row);
+        let tree = example_in(rt, alloc, &shape(rt, alloc, text));
+        expect_text(rt, text_of(rt, alloc, &tree), wanted, &[text]);
+    }
+}
+
 #[test]
 fn examples_by_hand(rt: HostRuntime) {
-    let alloc = rt.alloc();
-    for (text, wanted) in &EXAMPLES {
-        let tree = example_in(&rt, alloc, &shape(&rt, alloc, text));
-        expect_text(&rt, text_of(&rt, alloc, &tree), wanted, &[text]);
-    }
+    each_row(&rt, rt.alloc(), &EXAMPLES, &mut ExampleText);
 }
 
 /// Whether a tree is there just if the shape is inhabited, and then has it.
@@ -751,12 +533,20 @@ fn has_example(rt: &impl Abort, alloc: Global, text: &str) -> bool {
     is_example(&given, &example_in(rt, alloc, &given))
 }
 
+/// There is an example just if the shape is inhabited, and it has the shape.
+#[derive(Drop)]
+struct ExampleInside;
+
+impl Rows for ExampleInside {
+    fn expect(&mut self, rt: &impl Abort, alloc: Global, row: Row) {
+        let (text, _) = two(rt, row);
+        expect_answer(rt, has_example(rt, alloc, text), true, &[text]);
+    }
+}
+
 #[test]
 fn examples_have_their_shapes(rt: HostRuntime) {
-    let alloc = rt.alloc();
-    for (text, _) in &EXAMPLES {
-        expect_answer(&rt, has_example(&rt, alloc, text), true, &[text]);
-    }
+    each_row(&rt, rt.alloc(), &EXAMPLES, &mut ExampleInside);
 }
 
 /// A value of the first shape that lacks the second, if there is one.
@@ -764,23 +554,27 @@ fn outside_of(rt: &impl Abort, alloc: Global, inner: &Shape, outer: &Shape) -> O
     outside(alloc, inner, outer).expect(rt, "an answer")
 }
 
-/// The text of that value, or `none`, is the wanted one.
-fn expect_outside(rt: &impl Abort, alloc: Global, first: &str, second: &str, wanted: &str) {
-    let tree = outside_of(
-        rt,
-        alloc,
-        &shape(rt, alloc, first),
-        &shape(rt, alloc, second),
-    );
-    expect_text(rt, text_of(rt, alloc, &tree), wanted, &[first, second]);
+/// The text of that value, or `none`.
+fn outside_text(rt: &impl Abort, alloc: Global, first: &str, second: &str) -> String {
+    let (inner, outer) = (shape(rt, alloc, first), shape(rt, alloc, second));
+    text_of(rt, alloc, &outside_of(rt, alloc, &inner, &outer))
+}
+
+/// That value, or `none`, is the one that is wanted.
+#[derive(Drop)]
+struct OutsideText;
+
+impl Rows for OutsideText {
+    fn expect(&mut self, rt: &impl Abort, alloc: Global, row: Row) {
+        let (first, second, wanted) = three(rt, row);
+        let told = outside_text(rt, alloc, first, second);
+        expect_text(rt, told, wanted, &[first, second]);
+    }
 }
 
 #[test]
 fn values_outside_by_hand(rt: HostRuntime) {
-    let alloc = rt.alloc();
-    for (first, second, wanted) in &OUTSIDE {
-        expect_outside(&rt, alloc, first, second, wanted);
-    }
+    each_row(&rt, rt.alloc(), &OUTSIDE, &mut OutsideText);
 }
 
 /// Whether a tree is there just if the first shape isn't inside the second, and then has the first and lacks the second.
@@ -798,80 +592,67 @@ fn has_outside(rt: &impl Abort, alloc: Global, first: &str, second: &str) -> boo
     is_outside(&inner, &outer, &outside_of(rt, alloc, &inner, &outer))
 }
 
-#[test]
-fn values_outside_tell_shapes_apart(rt: HostRuntime) {
-    let alloc = rt.alloc();
-    for (first, second, _) in &OUTSIDE {
-        expect_answer(
-            &rt,
-            has_outside(&rt, alloc, first, second),
-            true,
-            &[first, second],
-        );
+/// That holds of the value that is told of the two shapes.
+#[derive(Drop)]
+struct OutsideTold;
+
+impl Rows for OutsideTold {
+    fn expect(&mut self, rt: &impl Abort, alloc: Global, row: Row) {
+        let (first, second, _) = three(rt, row);
+        let answer = has_outside(rt, alloc, first, second);
+        expect_answer(rt, answer, true, &[first, second]);
     }
 }
 
-/// A spelling that is read the same in the first version of certificates, where a list of types is none.
-const FIRST_VERSION: [(&str, Option<ShapeRefusal>); 8] = [
-    (r#"{"type":"integer"}"#, None),
-    (
-        r#"{"type":"array","prefixItems":[{"type":"object","required":["a"]}],"minItems":1}"#,
-        None,
-    ),
-    (r#"{"type":"integer","default":{"type":["null"]}}"#, None),
-    (r#"{"type":["null","string"]}"#, Some(ShapeRefusal::BadType)),
-    (r#"{"type":["integer"]}"#, Some(ShapeRefusal::BadType)),
-    (
-        r#"{"type":["null","string"],"items":true}"#,
-        Some(ShapeRefusal::BadType),
-    ),
-    (
-        r#"{"type":"object","properties":{"a":{"type":"array","items":{"type":["null"]}}}}"#,
-        Some(ShapeRefusal::BadType),
-    ),
-    (
-        r#"{"type":"string","items":true}"#,
-        Some(ShapeRefusal::Keyword),
-    ),
-];
+#[test]
+fn values_outside_tell_shapes_apart(rt: HostRuntime) {
+    each_row(&rt, rt.alloc(), &OUTSIDE, &mut OutsideTold);
+}
 
-/// Whether the spelling in a tree is read in the first version of certificates, or refused for this reason.
-fn is_answered_v1(
-    rt: &impl Abort,
-    alloc: Global,
-    text: &str,
-    refusal: &Option<ShapeRefusal>,
-) -> bool {
-    read_v1(alloc, &tree(rt, alloc, text)).err() == *refusal
+/// A spelling that is read the same in the first version of certificates, where a list of types is none.
+const FIRST_VERSION: Table = Table {
+    rows: 8,
+    text: r#"
+- {"type":"integer"} => none
+- {"type":"array","prefixItems":[{"type":"object","required":["a"]}],"minItems":1} => none
+- {"type":"integer","default":{"type":["null"]}} => none
+- {"type":["null","string"]} => BadType
+- {"type":["integer"]} => BadType
+- {"type":["null","string"],"items":true} => BadType
+- {"type":"object","properties":{"a":{"type":"array","items":{"type":["null"]}}}} => BadType
+- {"type":"string","items":true} => Keyword
+"#,
+};
+
+/// Why the spelling in a tree is refused in the first version of certificates, or `none`.
+fn refusal_v1(rt: &impl Abort, alloc: Global, text: &str) -> String {
+    refusal_text(rt, alloc, read_v1(alloc, &tree(rt, alloc, text)).err())
 }
 
 /// The same of the spelling in a JSON value.
-fn is_value_answered_v1(
-    rt: &impl Abort,
-    alloc: Global,
-    text: &str,
-    refusal: &Option<ShapeRefusal>,
-) -> bool {
-    read_value_v1(alloc, &value(rt, alloc, text)).err() == *refusal
+fn value_refusal_v1(rt: &impl Abort, alloc: Global, text: &str) -> String {
+    refusal_text(
+        rt,
+        alloc,
+        read_value_v1(alloc, &value(rt, alloc, text)).err(),
+    )
+}
+
+/// The spelling is read in the first version of certificates, or refused for this reason.
+#[derive(Drop)]
+struct RefusedByVersion;
+
+impl Rows for RefusedByVersion {
+    fn expect(&mut self, rt: &impl Abort, alloc: Global, row: Row) {
+        let (text, wanted) = two(rt, row);
+        expect_text(rt, refusal_v1(rt, alloc, text), wanted, &[text]);
+        expect_text(rt, value_refusal_v1(rt, alloc, text), wanted, &[text]);
+    }
 }
 
 #[test]
 fn lists_of_types_by_version(rt: HostRuntime) {
-    let alloc = rt.alloc();
-    for (text, refusal) in &FIRST_VERSION {
-        expect_answer(
-            &rt,
-            is_answered_v1(&rt, alloc, text, refusal),
-            true,
-            &[text],
-        );
-        expect_answer(
-            &rt,
-            is_value_answered_v1(&rt, alloc, text, refusal),
-            true,
-            &[text],
-        );
-    }
+    each_row(&rt, rt.alloc(), &FIRST_VERSION, &mut RefusedByVersion);
 }
 
 /// Whether the shape in a tree is the same in the first version of certificates.
@@ -886,15 +667,23 @@ fn is_value_read_alike(rt: &impl Abort, alloc: Global, text: &str) -> bool {
     same(&first, &shape(rt, alloc, text))
 }
 
-#[test]
-fn shapes_of_the_first_version(rt: HostRuntime) {
-    let alloc = rt.alloc();
-    for (text, refusal) in &FIRST_VERSION {
-        if refusal.is_none() {
-            expect_answer(&rt, is_read_alike(&rt, alloc, text), true, &[text]);
-            expect_answer(&rt, is_value_read_alike(&rt, alloc, text), true, &[text]);
+/// The spelling, where it is read in the first version of certificates, is read the same.
+#[derive(Drop)]
+struct AlikeByVersion;
+
+impl Rows for AlikeByVersion {
+    fn expect(&mut self, rt: &impl Abort, alloc: Global, row: Row) {
+        let (text, refusal) = two(rt, row);
+        if refusal == "none" {
+            expect_answer(rt, is_read_alike(rt, alloc, text), true, &[text]);
+            expect_answer(rt, is_value_read_alike(rt, alloc, text), true, &[text]);
         }
     }
+}
+
+#[test]
+fn shapes_of_the_first_version(rt: HostRuntime) {
+    each_row(&rt, rt.alloc(), &FIRST_VERSION, &mut AlikeByVersion);
 }
 
 #[test]
@@ -905,96 +694,107 @@ fn values_are_read_as_trees(rt: HostRuntime) {
     assert!(rt; same(&shape(&rt, alloc, text), &of_value));
 }
 
-/// The shape with these parts.
-fn several(rt: &impl Abort, alloc: Global, texts: &[&str]) -> Shape {
+/// The shape with the parts whose spellings stand apart by ` + `; no text is no part.
+fn several(rt: &impl Abort, alloc: Global, texts: &str) -> Shape {
     let mut parts = Vec::new(alloc);
-    for text in texts {
-        parts.push(shape(rt, alloc, text)).expect(rt, "memory");
+    for text in texts.split(" + ") {
+        if !text.is_empty() {
+            parts.push(shape(rt, alloc, text)).expect(rt, "memory");
+        }
     }
     Shape::Several(parts)
 }
 
-/// The spellings of parts, and whether the shape of these parts is proper.
-const PROPER: [(&[&str], bool); 14] = [
-    (&[r#"{"type":"integer"}"#], false),
-    (&[r#"{"type":"integer"}"#, r#"{"type":"string"}"#], true),
-    (&[r#"{"type":"string"}"#, r#"{"type":"integer"}"#], false),
-    (&[], false),
-    (&[r#"{"type":"integer"}"#, r#"{"type":"integer"}"#], false),
-    (&["true", r#"{"type":"integer"}"#], false),
-    (&[r#"{"type":"integer"}"#, "false"], false),
-    (
-        &[r#"{"type":["boolean","integer"]}"#, r#"{"type":"null"}"#],
-        false,
-    ),
-    (
-        &[r#"{"type":"array"}"#, r#"{"type":"array","items":false}"#],
-        false,
-    ),
-    (&[r#"{"type":"array"}"#, r#"{"type":"object"}"#], true),
-    (&[r#"{"type":"null"}"#, r#"{"type":"object"}"#], true),
-    (&[r#"{"type":"object"}"#, r#"{"type":"null"}"#], false),
-    (
-        &[
-            r#"{"type":"array","prefixItems":[false],"minItems":1}"#,
-            r#"{"type":"null"}"#,
-        ],
-        true,
-    ),
-    (
-        &[
-            r#"{"type":"array"}"#,
-            r#"{"type":"boolean"}"#,
-            r#"{"type":"integer"}"#,
-            r#"{"type":"null"}"#,
-            r#"{"type":"object"}"#,
-            r#"{"type":"string"}"#,
-        ],
-        true,
-    ),
-];
+/// The spellings of parts, apart by ` + `, and whether the shape of these parts is proper.
+const PROPER: Table = Table {
+    rows: 14,
+    text: r#"
+- {"type":"integer"} => false
+- {"type":"integer"} + {"type":"string"} => true
+- {"type":"string"} + {"type":"integer"} => false
+-  => false
+- {"type":"integer"} + {"type":"integer"} => false
+- true + {"type":"integer"} => false
+- {"type":"integer"} + false => false
+- {"type":["boolean","integer"]} + {"type":"null"} => false
+- {"type":"array"} + {"type":"array","items":false} => false
+- {"type":"array"} + {"type":"object"} => true
+- {"type":"null"} + {"type":"object"} => true
+- {"type":"object"} + {"type":"null"} => false
+- {"type":"array","prefixItems":[false],"minItems":1} + {"type":"null"} => true
+- {"type":"array"} + {"type":"boolean"} + {"type":"integer"} + {"type":"null"} + {"type":"object"} + {"type":"string"}
+  => true
+"#,
+};
 
 /// Whether a copy of the shape with these parts is proper.
-fn is_copy_proper(rt: &impl Abort, alloc: Global, texts: &[&str]) -> bool {
+fn is_copy_proper(rt: &impl Abort, alloc: Global, texts: &str) -> bool {
     proper(&copy(alloc, &several(rt, alloc, texts)).expect(rt, "a copy"))
 }
 
 /// Whether the shape of lists of the shape with these parts is proper.
-fn is_list_proper(rt: &impl Abort, alloc: Global, texts: &[&str]) -> bool {
+fn is_list_proper(rt: &impl Abort, alloc: Global, texts: &str) -> bool {
     let rest = Box::new(alloc, several(rt, alloc, texts)).expect(rt, "memory");
     let first = Vec::new(alloc);
     proper(&Shape::List { first, rest })
 }
 
+/// Whether the shape with these parts is proper, as it is printed.
+fn proper_text(rt: &impl Abort, alloc: Global, texts: &str) -> String {
+    printed(rt, alloc, &proper(&several(rt, alloc, texts)))
+}
+
+/// Whether the shape with these parts, and that of lists of it, is proper is told as it is wanted; a copy is proper.
+#[derive(Drop)]
+struct ProperParts;
+
+impl Rows for ProperParts {
+    fn expect(&mut self, rt: &impl Abort, alloc: Global, row: Row) {
+        let (texts, wanted) = two(rt, row);
+        expect_text(rt, proper_text(rt, alloc, texts), wanted, &[texts]);
+        expect_answer(rt, is_copy_proper(rt, alloc, texts), true, &[texts]);
+        let told = printed(rt, alloc, &is_list_proper(rt, alloc, texts));
+        expect_text(rt, told, wanted, &[texts]);
+    }
+}
+
 #[test]
 fn proper_parts(rt: HostRuntime) {
-    let alloc = rt.alloc();
-    for (texts, answer) in &PROPER {
-        expect_answer(&rt, proper(&several(&rt, alloc, texts)), *answer, texts);
-        expect_answer(&rt, is_copy_proper(&rt, alloc, texts), true, texts);
-        expect_answer(&rt, is_list_proper(&rt, alloc, texts), *answer, texts);
+    each_row(&rt, rt.alloc(), &PROPER, &mut ProperParts);
+}
+
+/// The shape that is read is proper.
+#[derive(Drop)]
+struct ReadProper;
+
+impl Rows for ReadProper {
+    fn expect(&mut self, rt: &impl Abort, alloc: Global, row: Row) {
+        let (text, _) = two(rt, row);
+        let answer = proper(&shape(rt, alloc, text));
+        expect_answer(rt, answer, true, &[text]);
     }
 }
 
 #[test]
 fn read_shapes_are_proper(rt: HostRuntime) {
-    let alloc = rt.alloc();
-    for (text, _) in &WRITTEN {
-        expect_answer(&rt, proper(&shape(&rt, alloc, text)), true, &[text]);
+    each_row(&rt, rt.alloc(), &WRITTEN, &mut ReadProper);
+}
+
+/// The join of the two shapes is proper.
+#[derive(Drop)]
+struct JoinedProper;
+
+impl Rows for JoinedProper {
+    fn expect(&mut self, rt: &impl Abort, alloc: Global, row: Row) {
+        let (first, second, _) = three(rt, row);
+        let answer = proper(&joined(rt, alloc, first, second));
+        expect_answer(rt, answer, true, &[first, second]);
     }
 }
 
 #[test]
 fn joins_are_proper(rt: HostRuntime) {
-    let alloc = rt.alloc();
-    for (first, second, _) in &JOINED {
-        expect_answer(
-            &rt,
-            proper(&joined(&rt, alloc, first, second)),
-            true,
-            &[first, second],
-        );
-    }
+    each_row(&rt, rt.alloc(), &JOINED, &mut JoinedProper);
 }
 
 /// What is written for the shape of these simple kinds.

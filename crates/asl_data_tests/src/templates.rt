@@ -1,5 +1,6 @@
 //! Vectors for templates, and each call once with ample memory.
 use crate::expecting::{expect_text, printed};
+use crate::tables::{Row, Rows, Table, each_row, three};
 use asl_intrinsic::Item;
 use asl_template::{SpellingRefusal, Template, eval, from_tree, from_value};
 use asl_tree::{Tree, read, read_value, to_text};
@@ -52,124 +53,82 @@ fn answered(
 }
 
 /// A template, an input, and the text of the value, or the refusal.
-const TEMPLATES: [(&str, &str, &str); 20] = [
-    (
-        r#"{"a":[{"b.$":"$.x"}],"c":"$.x"}"#,
-        r#"{"x":1}"#,
-        r#"{"a":[{"b":1}],"c":"$.x"}"#,
-    ),
-    (
-        r#"{"t.$":"States.Format('{} of \\{}', $.n)"}"#,
-        r#"{"n":-9223372036854775808}"#,
-        r#"{"t":"-9223372036854775808 of {}"}"#,
-    ),
-    (
-        r#"{".$":"$","a.$.$":"$.x"}"#,
-        r#"{"x":1}"#,
-        r#"{"":{"x":1},"a.$":1}"#,
-    ),
-    (
-        r#"{"n":null,"b":true,"l":[],"o":{}}"#,
-        "1",
-        r#"{"b":true,"l":[],"n":null,"o":{}}"#,
-    ),
-    (
-        r#"{"p.$":"$.no","q.$":"States.ArrayLength(1)"}"#,
-        "{}",
-        "ParameterPathFailure",
-    ),
-    (
-        r#"{"p.$":"States.ArrayLength(1)","q.$":"$.no"}"#,
-        "{}",
-        "IntrinsicFailure",
-    ),
-    (
-        r#"{"a!.$":"States.ArrayLength(1)","a.$":"$.no"}"#,
-        "{}",
-        "ParameterPathFailure",
-    ),
-    (r#"{"x.$":"States.Array($.no)"}"#, "{}", "IntrinsicFailure"),
-    (r#"{"x.$":1}"#, "{}", "NotText"),
-    (r#"{"x.$":"$$.Execution.Id"}"#, "{}", "LeftOutContext"),
-    (r#"{"x.$":"$$.Map.Item.Index"}"#, "{}", "LeftOutContext"),
-    (r#"{"x.$":"hello"}"#, "{}", "BadIntrinsic"),
-    (r#"{"x.$":"$.a b"}"#, "{}", "BadPath"),
-    (r#"{"x.$":"$.n","x":1}"#, "{}", "DuplicateAfterStrip"),
-    (r#"{"a":[[{"x.$":1}]]}"#, "{}", "NotText"),
-    ("[]", "{}", "NotObject"),
-    ("\"$.x\"", "{}", "NotObject"),
-    (r#"{"x":[1,{"y":1.5}]}"#, "{}", "NotWhole"),
-    (r#"{"x.$":1,"y":9223372036854775808}"#, "{}", "NotWhole"),
-    ("1e2", "{}", "NotWhole"),
-];
+const TEMPLATES: Table = Table {
+    rows: 20,
+    text: r#"
+- {"a":[{"b.$":"$.x"}],"c":"$.x"} => {"x":1} => {"a":[{"b":1}],"c":"$.x"}
+- {"t.$":"States.Format('{} of \\{}', $.n)"} => {"n":-9223372036854775808} => {"t":"-9223372036854775808 of {}"}
+- {".$":"$","a.$.$":"$.x"} => {"x":1} => {"":{"x":1},"a.$":1}
+- {"n":null,"b":true,"l":[],"o":{}} => 1 => {"b":true,"l":[],"n":null,"o":{}}
+- {"p.$":"$.no","q.$":"States.ArrayLength(1)"} => {} => ParameterPathFailure
+- {"p.$":"States.ArrayLength(1)","q.$":"$.no"} => {} => IntrinsicFailure
+- {"a!.$":"States.ArrayLength(1)","a.$":"$.no"} => {} => ParameterPathFailure
+- {"x.$":"States.Array($.no)"} => {} => IntrinsicFailure
+- {"x.$":1} => {} => NotText
+- {"x.$":"$$.Execution.Id"} => {} => LeftOutContext
+- {"x.$":"$$.Map.Item.Index"} => {} => LeftOutContext
+- {"x.$":"hello"} => {} => BadIntrinsic
+- {"x.$":"$.a b"} => {} => BadPath
+- {"x.$":"$.n","x":1} => {} => DuplicateAfterStrip
+- {"a":[[{"x.$":1}]]} => {} => NotText
+- [] => {} => NotObject
+- "$.x" => {} => NotObject
+- {"x":[1,{"y":1.5}]} => {} => NotWhole
+- {"x.$":1,"y":9223372036854775808} => {} => NotWhole
+- 1e2 => {} => NotWhole
+"#,
+};
 
 /// The template's value is told as it is wanted.
-fn expect_value(rt: &impl Abort, alloc: Global, spelling: &str, input: &str, wanted: &str) {
-    let told = answered(rt, alloc, spelling, false, &tree(rt, alloc, input), None);
-    expect_text(rt, told, wanted, &[spelling, input]);
+#[derive(Drop)]
+struct Filled;
+
+impl Rows for Filled {
+    fn expect(&mut self, rt: &impl Abort, alloc: Global, row: Row) {
+        let (spelling, input, wanted) = three(rt, row);
+        let told = answered(rt, alloc, spelling, false, &tree(rt, alloc, input), None);
+        expect_text(rt, told, wanted, &[spelling, input]);
+    }
 }
 
 #[test]
 fn templates(rt: HostRuntime) {
-    let alloc = rt.alloc();
-    for (spelling, input, wanted) in &TEMPLATES {
-        expect_value(&rt, alloc, spelling, input, wanted);
-    }
+    each_row(&rt, rt.alloc(), &TEMPLATES, &mut Filled);
 }
 
 /// A template, and the text of its value, or the refusal, with the item of the tests and without one.
-const WITH_ITEM: [(&str, &str, &str); 7] = [
-    (
-        r#"{"x.$":"States.Array($$.Map.Item.Index)"}"#,
-        r#"{"x":[3]}"#,
-        "IntrinsicFailure",
-    ),
-    (
-        r#"{"i.$":"$$.Map.Item.Index"}"#,
-        r#"{"i":3}"#,
-        "ParameterPathFailure",
-    ),
-    (
-        r#"{"v.$":"$$.Map.Item.Value"}"#,
-        r#"{"v":{"k":[1,2]}}"#,
-        "ParameterPathFailure",
-    ),
-    (
-        r#"{"v.$":"$$.Map.Item.Value['k'][1]"}"#,
-        r#"{"v":2}"#,
-        "ParameterPathFailure",
-    ),
-    (
-        r#"{"v.$":"$$.Map.Item.Value.no"}"#,
-        "ParameterPathFailure",
-        "ParameterPathFailure",
-    ),
-    (
-        r#"{"v.$":"$$.Map.Item.Valuex"}"#,
-        "LeftOutContext",
-        "LeftOutContext",
-    ),
-    (
-        r#"{"v.$":"$$['Map'].Item.Index"}"#,
-        "LeftOutContext",
-        "LeftOutContext",
-    ),
-];
+const WITH_ITEM: Table = Table {
+    rows: 7,
+    text: r#"
+- {"x.$":"States.Array($$.Map.Item.Index)"} => {"x":[3]} => IntrinsicFailure
+- {"i.$":"$$.Map.Item.Index"} => {"i":3} => ParameterPathFailure
+- {"v.$":"$$.Map.Item.Value"} => {"v":{"k":[1,2]}} => ParameterPathFailure
+- {"v.$":"$$.Map.Item.Value['k'][1]"} => {"v":2} => ParameterPathFailure
+- {"v.$":"$$.Map.Item.Value.no"} => ParameterPathFailure => ParameterPathFailure
+- {"v.$":"$$.Map.Item.Valuex"} => LeftOutContext => LeftOutContext
+- {"v.$":"$$['Map'].Item.Index"} => LeftOutContext => LeftOutContext
+"#,
+};
 
 /// The text of the value of a template that may name an item, or the refusal.
 fn answered_with(rt: &impl Abort, alloc: Global, spelling: &str, item: Option<Item>) -> String {
     answered(rt, alloc, spelling, true, &tree(rt, alloc, "{}"), item)
 }
 
-#[test]
-fn templates_with_an_item(rt: HostRuntime) {
-    let alloc = rt.alloc();
-    let value = &tree(&rt, alloc, r#"{"k":[1,2]}"#);
-    let item = Some(Item { index: 3, value });
-    for (spelling, with, _) in &WITH_ITEM {
+/// The template's value with the third item, which is this, is told as it is wanted.
+#[derive(Drop)]
+struct FilledWith {
+    item: Tree,
+}
+
+impl Rows for FilledWith {
+    fn expect(&mut self, rt: &impl Abort, alloc: Global, row: Row) {
+        let (spelling, with, _) = three(rt, row);
+        let value = &self.item;
+        let item = Some(Item { index: 3, value });
         expect_text(
-            &rt,
-            answered_with(&rt, alloc, spelling, item),
+            rt,
+            answered_with(rt, alloc, spelling, item),
             with,
             &[spelling],
         );
@@ -177,16 +136,30 @@ fn templates_with_an_item(rt: HostRuntime) {
 }
 
 #[test]
-fn templates_without_an_item(rt: HostRuntime) {
-    let alloc = rt.alloc();
-    for (spelling, _, without) in &WITH_ITEM {
+fn templates_with_an_item(rt: HostRuntime) {
+    let item = tree(&rt, rt.alloc(), r#"{"k":[1,2]}"#);
+    each_row(&rt, rt.alloc(), &WITH_ITEM, &mut FilledWith { item });
+}
+
+/// The template's value without an item is told as it is wanted.
+#[derive(Drop)]
+struct FilledWithout;
+
+impl Rows for FilledWithout {
+    fn expect(&mut self, rt: &impl Abort, alloc: Global, row: Row) {
+        let (spelling, _, without) = three(rt, row);
         expect_text(
-            &rt,
-            answered_with(&rt, alloc, spelling, None),
+            rt,
+            answered_with(rt, alloc, spelling, None),
             without,
             &[spelling],
         );
     }
+}
+
+#[test]
+fn templates_without_an_item(rt: HostRuntime) {
+    each_row(&rt, rt.alloc(), &WITH_ITEM, &mut FilledWithout);
 }
 
 /// The template that the tree in the JSON text spells, or the refusal.

@@ -1,6 +1,7 @@
 //! Shapes through a state: what paths name, or where they may name nothing, what is put, what templates give and rules let
 //! through, and what leaves a state, each call once with ample memory.
 use crate::given::{number_of, pass, path, settings, shape, template, test, tree};
+use crate::tables::{Row, Rows, Table, each_row, first_three, four, three};
 use crate::told::{
     expect_answer, expect_text, missing_text, owned, printed, showing, tree_text, written,
     written_at,
@@ -18,190 +19,109 @@ use std::alloc::Global;
 use std::process::Abort;
 
 /// The fields of a rule, a shape, and the shape of its trees for which the rule is true, or the refusal.
-const TRUE_OF: [(&str, &str, &str); 38] = [
-    (
-        r#""Variable":"$.k","IsPresent":true"#,
-        r#"{"type":"object","additionalProperties":false}"#,
-        "false",
-    ),
-    (
-        r#""Variable":"$.k","IsPresent":true"#,
-        r#"{"type":"object"}"#,
-        r#"{"properties":{"k":true},"required":["k"],"type":"object"}"#,
-    ),
-    (
-        r#""Variable":"$.k","IsPresent":false"#,
-        r#"{"type":"object","properties":{"k":{"type":"string"}}}"#,
-        r#"{"properties":{"k":{"type":"string"}},"type":"object"}"#,
-    ),
-    (
-        r#""Or":[{"Variable":"$.k","IsPresent":true},{"Variable":"$.j","IsPresent":true}]"#,
-        r#"{"type":"object","properties":{"k":{"type":"string"}}}"#,
-        r#"{"properties":{"k":{"type":"string"}},"type":"object"}"#,
-    ),
-    (
-        r#""And":[{"Variable":"$.k","IsPresent":true},{"Variable":"$.k","StringEquals":"x"}]"#,
-        r#"{"type":"object","properties":{"k":{"type":"string"}}}"#,
-        r#"{"properties":{"k":{"type":"string"}},"required":["k"],"type":"object"}"#,
-    ),
-    (
-        r#""And":[{"Variable":"$.k","StringEquals":"x"},{"Variable":"$.k","IsPresent":true}]"#,
-        r#"{"type":"object","properties":{"k":{"type":"string"}}}"#,
-        "MayBeMissing {}",
-    ),
-    (
-        r#""Not":{"Variable":"$.k","IsPresent":true}"#,
-        r#"{"type":"object","properties":{"k":{"type":"string"}}}"#,
-        r#"{"properties":{"k":{"type":"string"}},"type":"object"}"#,
-    ),
-    (
-        r#""Not":{"And":[{"Variable":"$.k","IsPresent":true},{"Variable":"$.k","IsNull":true}]}"#,
-        r#"{"type":"object"}"#,
-        r#"{"type":"object"}"#,
-    ),
-    (
-        r#""Or":[{"Variable":"$.k","IsPresent":true},{"Variable":"$.k","IsNull":true}]"#,
-        r#"{"type":"object"}"#,
-        "MayBeMissing {}",
-    ),
-    (
-        r#""And":[{"Variable":"$.k","IsPresent":true},{"Variable":"$.j","IsNull":true}]"#,
-        r#"{"type":"object","additionalProperties":false}"#,
-        "false",
-    ),
-    (
-        r#""And":[{"Variable":"$.k","IsPresent":true},{"Variable":"$.k","IsNull":true}]"#,
-        r#"{"type":"object","properties":{"k":false},"additionalProperties":false}"#,
-        "false",
-    ),
-    (
-        r#""And":[{"Variable":"$.k","IsPresent":true}]"#,
-        r#"{"type":"object","properties":{"k":false},"additionalProperties":false}"#,
-        r#"{"additionalProperties":false,"properties":{"k":false},"required":["k"],"type":"object"}"#,
-    ),
-    (
-        r#""Variable":"$.a","StringEqualsPath":"$.b""#,
-        r#"{"type":"object","required":["a"]}"#,
-        r#"MayBeMissing {"a":null}"#,
-    ),
-    (
-        r#""Variable":"$.a","StringEqualsPath":"$.b""#,
-        r#"{"type":"object","required":["a","b"]}"#,
-        r#"{"properties":{"a":true,"b":true},"required":["a","b"],"type":"object"}"#,
-    ),
-    (
-        r#""Variable":"$.k","StringMatches":"a*""#,
-        r#"{"type":"object","required":["k"]}"#,
-        r#"{"properties":{"k":true},"required":["k"],"type":"object"}"#,
-    ),
-    (
-        r#""Variable":"$.k","IsString":false"#,
-        r#"{"type":"object"}"#,
-        "MayBeMissing {}",
-    ),
-    (r#""Variable":"$.k","IsString":false"#, "false", "false"),
-    (
-        r#""Variable":"$.k","IsString":false"#,
-        r#"{"type":"object","required":["a"],"additionalProperties":false}"#,
-        "false",
-    ),
-    (
-        r#""Variable":"$.a.b","IsPresent":true"#,
-        r#"{"type":"object","properties":{"a":{"type":"object","additionalProperties":false}}}"#,
-        r#"{"properties":{"a":false},"required":["a"],"type":"object"}"#,
-    ),
-    (
-        r#""Variable":"$.a.b","IsPresent":true"#,
-        r#"{"type":"object","properties":{"a":true,"b":{"type":"null"}},"additionalProperties":false}"#,
-        r#"{"additionalProperties":false,"properties":{"a":true,"b":{"type":"null"}},"required":["a"],"type":"object"}"#,
-    ),
-    (
-        r#""Variable":"$[0].k","IsPresent":true"#,
-        r#"{"type":"array","prefixItems":[{"type":"object"}],"minItems":1}"#,
-        r#"{"minItems":1,"prefixItems":[{"properties":{"k":true},"required":["k"],"type":"object"}],"type":"array"}"#,
-    ),
-    (
-        r#""Variable":"$[1].k","IsPresent":true"#,
-        r#"{"type":"array","prefixItems":[{"type":"object"}],"minItems":1}"#,
-        r#"{"minItems":1,"prefixItems":[{"type":"object"}],"type":"array"}"#,
-    ),
-    (
-        r#""Variable":"$.k","IsPresent":true"#,
-        r#"{"type":"string"}"#,
-        "false",
-    ),
-    (r#""Variable":"$.k","IsPresent":true"#, "true", "true"),
-    (
-        r#""Variable":"$.k","IsPresent":true"#,
-        r#"{"type":["null","object"],"properties":{"k":{"type":"string"}},"additionalProperties":false}"#,
-        r#"{"additionalProperties":false,"properties":{"k":{"type":"string"}},"required":["k"],"type":"object"}"#,
-    ),
-    (
-        r#""Variable":"$.k","IsPresent":true"#,
-        r#"{"type":["null","string"]}"#,
-        "false",
-    ),
-    (
-        r#""Variable":"$[0]","IsPresent":true"#,
-        r#"{"type":["array","null","object"],"items":{"type":"integer"}}"#,
-        r#"{"items":{"type":"integer"},"type":"array"}"#,
-    ),
-    (
-        r#""Variable":"$","IsPresent":true"#,
-        r#"{"type":["null","object"],"properties":{"k":{"type":"string"}},"additionalProperties":false}"#,
-        r#"{"additionalProperties":false,"properties":{"k":{"type":"string"}},"type":["null","object"]}"#,
-    ),
-    (
-        r#""Variable":"$.a.b","IsPresent":true"#,
-        r#"{"type":"object","properties":{"a":{"type":["array","object","string"]}}}"#,
-        r#"{"properties":{"a":{"properties":{"b":true},"required":["b"],"type":"object"}},"required":["a"],"type":"object"}"#,
-    ),
-    (
-        r#""And":[{"Variable":"$.k","IsPresent":true},{"Variable":"$.k","StringEquals":"x"}]"#,
-        r#"{"type":["null","object"],"properties":{"k":{"type":"string"}},"additionalProperties":false}"#,
-        r#"{"additionalProperties":false,"properties":{"k":{"type":"string"}},"required":["k"],"type":"object"}"#,
-    ),
-    (
-        r#""Or":[{"Variable":"$.k","IsPresent":true},{"Variable":"$","IsNull":true}]"#,
-        r#"{"type":["null","object"],"properties":{"k":{"type":"string"}},"additionalProperties":false}"#,
-        r#"{"additionalProperties":false,"properties":{"k":{"type":"string"}},"type":["null","object"]}"#,
-    ),
-    (
-        r#""Variable":"$.a","NumericEquals":1"#,
-        r#"{"type":["null","object"],"properties":{"a":{"type":"integer"}},"required":["a"],"additionalProperties":false}"#,
-        "MayBeMissing null",
-    ),
-    (
-        r#""Variable":"$.a","NumericEquals":1"#,
-        r#"{"type":["array","object"],"prefixItems":[false],"minItems":1,"properties":{"a":{"type":"integer"}},"required":["a"],"additionalProperties":false}"#,
-        r#"{"additionalProperties":false,"minItems":1,"prefixItems":[false],"properties":{"a":{"type":"integer"}},"required":["a"],"type":["array","object"]}"#,
-    ),
-    (
-        r#""And":[{"Variable":"$.k","IsPresent":true},{"Variable":"$.j","IsNull":true}]"#,
-        r#"{"type":"object","properties":{"k":{"type":"string"}}}"#,
-        r#"MayBeMissing {"k":""}"#,
-    ),
-    (
-        r#""Variable":"$.a","StringEqualsPath":"$.b""#,
-        r#"{"type":"object","properties":{"b":{"type":"integer"}}}"#,
-        "MayBeMissing {}",
-    ),
-    (
-        r#""Variable":"$[1]","NumericEquals":1"#,
-        r#"{"type":"array","prefixItems":[{"type":"integer"}],"minItems":1}"#,
-        "MayBeMissing [0]",
-    ),
-    (
-        r#""Variable":"$.a.b","BooleanEquals":true"#,
-        r#"{"type":"object","properties":{"a":{"type":["array","object"],"required":["b"]},"c":{"type":"string"}},"required":["a","c"]}"#,
-        r#"MayBeMissing {"a":[],"c":""}"#,
-    ),
-    (
-        r#""Or":[{"Not":{"Variable":"$.k","IsPresent":true}},{"Variable":"$.j","IsNull":true},{"Variable":"$.i","IsNull":true}]"#,
-        r#"{"type":"object","properties":{"i":{"type":"null"}},"required":["i"]}"#,
-        r#"MayBeMissing {"i":null}"#,
-    ),
-];
+const TRUE_OF: Table = Table {
+    rows: 38,
+    text: r#"
+- "Variable":"$.k","IsPresent":true => {"type":"object","additionalProperties":false} => false
+- "Variable":"$.k","IsPresent":true
+  => {"type":"object"}
+  => {"properties":{"k":true},"required":["k"],"type":"object"}
+- "Variable":"$.k","IsPresent":false
+  => {"type":"object","properties":{"k":{"type":"string"}}}
+  => {"properties":{"k":{"type":"string"}},"type":"object"}
+- "Or":[{"Variable":"$.k","IsPresent":true},{"Variable":"$.j","IsPresent":true}]
+  => {"type":"object","properties":{"k":{"type":"string"}}}
+  => {"properties":{"k":{"type":"string"}},"type":"object"}
+- "And":[{"Variable":"$.k","IsPresent":true},{"Variable":"$.k","StringEquals":"x"}]
+  => {"type":"object","properties":{"k":{"type":"string"}}}
+  => {"properties":{"k":{"type":"string"}},"required":["k"],"type":"object"}
+- "And":[{"Variable":"$.k","StringEquals":"x"},{"Variable":"$.k","IsPresent":true}]
+  => {"type":"object","properties":{"k":{"type":"string"}}}
+  => MayBeMissing {}
+- "Not":{"Variable":"$.k","IsPresent":true}
+  => {"type":"object","properties":{"k":{"type":"string"}}}
+  => {"properties":{"k":{"type":"string"}},"type":"object"}
+- "Not":{"And":[{"Variable":"$.k","IsPresent":true},{"Variable":"$.k","IsNull":true}]}
+  => {"type":"object"}
+  => {"type":"object"}
+- "Or":[{"Variable":"$.k","IsPresent":true},{"Variable":"$.k","IsNull":true}]
+  => {"type":"object"}
+  => MayBeMissing {}
+- "And":[{"Variable":"$.k","IsPresent":true},{"Variable":"$.j","IsNull":true}]
+  => {"type":"object","additionalProperties":false}
+  => false
+- "And":[{"Variable":"$.k","IsPresent":true},{"Variable":"$.k","IsNull":true}]
+  => {"type":"object","properties":{"k":false},"additionalProperties":false}
+  => false
+- "And":[{"Variable":"$.k","IsPresent":true}]
+  => {"type":"object","properties":{"k":false},"additionalProperties":false}
+  => {"additionalProperties":false,"properties":{"k":false},"required":["k"],"type":"object"}
+- "Variable":"$.a","StringEqualsPath":"$.b" => {"type":"object","required":["a"]} => MayBeMissing {"a":null}
+- "Variable":"$.a","StringEqualsPath":"$.b"
+  => {"type":"object","required":["a","b"]}
+  => {"properties":{"a":true,"b":true},"required":["a","b"],"type":"object"}
+- "Variable":"$.k","StringMatches":"a*"
+  => {"type":"object","required":["k"]}
+  => {"properties":{"k":true},"required":["k"],"type":"object"}
+- "Variable":"$.k","IsString":false => {"type":"object"} => MayBeMissing {}
+- "Variable":"$.k","IsString":false => false => false
+- "Variable":"$.k","IsString":false => {"type":"object","required":["a"],"additionalProperties":false} => false
+- "Variable":"$.a.b","IsPresent":true
+  => {"type":"object","properties":{"a":{"type":"object","additionalProperties":false}}}
+  => {"properties":{"a":false},"required":["a"],"type":"object"}
+- "Variable":"$.a.b","IsPresent":true
+  => {"type":"object","properties":{"a":true,"b":{"type":"null"}},"additionalProperties":false}
+  => {"additionalProperties":false,"properties":{"a":true,"b":{"type":"null"}},"required":["a"],"type":"object"}
+- "Variable":"$[0].k","IsPresent":true
+  => {"type":"array","prefixItems":[{"type":"object"}],"minItems":1}
+  => {"minItems":1,"prefixItems":[{"properties":{"k":true},"required":["k"],"type":"object"}],"type":"array"}
+- "Variable":"$[1].k","IsPresent":true
+  => {"type":"array","prefixItems":[{"type":"object"}],"minItems":1}
+  => {"minItems":1,"prefixItems":[{"type":"object"}],"type":"array"}
+- "Variable":"$.k","IsPresent":true => {"type":"string"} => false
+- "Variable":"$.k","IsPresent":true => true => true
+- "Variable":"$.k","IsPresent":true
+  => {"type":["null","object"],"properties":{"k":{"type":"string"}},"additionalProperties":false}
+  => {"additionalProperties":false,"properties":{"k":{"type":"string"}},"required":["k"],"type":"object"}
+- "Variable":"$.k","IsPresent":true => {"type":["null","string"]} => false
+- "Variable":"$[0]","IsPresent":true
+  => {"type":["array","null","object"],"items":{"type":"integer"}}
+  => {"items":{"type":"integer"},"type":"array"}
+- "Variable":"$","IsPresent":true
+  => {"type":["null","object"],"properties":{"k":{"type":"string"}},"additionalProperties":false}
+  => {"additionalProperties":false,"properties":{"k":{"type":"string"}},"type":["null","object"]}
+- "Variable":"$.a.b","IsPresent":true
+  => {"type":"object","properties":{"a":{"type":["array","object","string"]}}}
+  => {"properties":{"a":{"properties":{"b":true},"required":["b"],"type":"object"}},"required":["a"],"type":"object"}
+- "And":[{"Variable":"$.k","IsPresent":true},{"Variable":"$.k","StringEquals":"x"}]
+  => {"type":["null","object"],"properties":{"k":{"type":"string"}},"additionalProperties":false}
+  => {"additionalProperties":false,"properties":{"k":{"type":"string"}},"required":["k"],"type":"object"}
+- "Or":[{"Variable":"$.k","IsPresent":true},{"Variable":"$","IsNull":true}]
+  => {"type":["null","object"],"properties":{"k":{"type":"string"}},"additionalProperties":false}
+  => {"additionalProperties":false,"properties":{"k":{"type":"string"}},"type":["null","object"]}
+- "Variable":"$.a","NumericEquals":1
+  => {"type":["null","object"],"properties":{"a":{"type":"integer"}},"required":["a"],"additionalProperties":false}
+  => MayBeMissing null
+- "Variable":"$.a","NumericEquals":1
+  => {"type":["array","object"],"prefixItems":[false],"minItems":1,"properties":{"a":{"type":"integer"}},"required":["a"],"additionalProperties":false}
+  => {"additionalProperties":false,"minItems":1,"prefixItems":[false],"properties":{"a":{"type":"integer"}},"required":["a"],"type":["array","object"]}
+- "And":[{"Variable":"$.k","IsPresent":true},{"Variable":"$.j","IsNull":true}]
+  => {"type":"object","properties":{"k":{"type":"string"}}}
+  => MayBeMissing {"k":""}
+- "Variable":"$.a","StringEqualsPath":"$.b"
+  => {"type":"object","properties":{"b":{"type":"integer"}}}
+  => MayBeMissing {}
+- "Variable":"$[1]","NumericEquals":1
+  => {"type":"array","prefixItems":[{"type":"integer"}],"minItems":1}
+  => MayBeMissing [0]
+- "Variable":"$.a.b","BooleanEquals":true
+  => {"type":"object","properties":{"a":{"type":["array","object"],"required":["b"]},"c":{"type":"string"}},"required":["a","c"]}
+  => MayBeMissing {"a":[],"c":""}
+- "Or":[{"Not":{"Variable":"$.k","IsPresent":true}},{"Variable":"$.j","IsNull":true},{"Variable":"$.i","IsNull":true}]
+  => {"type":"object","properties":{"i":{"type":"null"}},"required":["i"]}
+  => MayBeMissing {"i":null}
+"#,
+};
 
 /// Why a rule has no shape.
 fn rule_refusal(rt: &impl Abort, alloc: Global, refusal: &RuleShapeRefusal) -> String {
@@ -220,167 +140,90 @@ fn narrowed(rt: &impl Abort, alloc: Global, fields: &str, given: &str) -> String
     }
 }
 
-#[test]
-fn rules(rt: HostRuntime) {
-    let alloc = rt.alloc();
-    for (fields, given, wanted) in &TRUE_OF {
-        let told = narrowed(&rt, alloc, fields, given);
-        expect_text(&rt, told, wanted, &[fields, given]);
+/// The shape of the trees for which the rule is true, or the refusal, is the one that is wanted.
+#[derive(Drop)]
+struct TrueOf;
+
+impl Rows for TrueOf {
+    fn expect(&mut self, rt: &impl Abort, alloc: Global, row: Row) {
+        let (fields, given, wanted) = three(rt, row);
+        let told = narrowed(rt, alloc, fields, given);
+        expect_text(rt, told, wanted, &[fields, given]);
     }
 }
 
+#[test]
+fn rules(rt: HostRuntime) {
+    each_row(&rt, rt.alloc(), &TRUE_OF, &mut TrueOf);
+}
+
 /// A template, the shape of its input, and the shape of the template's value, or the refusal; there is no item.
-const FILLED: [(&str, &str, &str); 33] = [
-    (
-        r#"{"p.$":"$"}"#,
-        r#"{"type":"object","additionalProperties":false}"#,
-        r#"{"additionalProperties":false,"properties":{"p":{"additionalProperties":false,"type":"object"}},"required":["p"],"type":"object"}"#,
-    ),
-    (
-        r#"{"p.$":"$.k"}"#,
-        r#"{"type":"object","additionalProperties":false}"#,
-        r#"MayBeMissing("p") {}"#,
-    ),
-    (
-        r#"{"p.$":"$.k"}"#,
-        r#"{"type":"object","properties":{"k":{"type":"null"}}}"#,
-        r#"MayBeMissing("p") {}"#,
-    ),
-    (
-        r#"{"p":{"b":[1,{"c.$":"$[1]"}]}}"#,
-        r#"{"type":"array","prefixItems":[true],"minItems":1}"#,
-        r#"MayBeMissing("c") [null]"#,
-    ),
-    (
-        r#"{"p":{"b":[1,{"c.$":"$[0]"}]}}"#,
-        r#"{"type":"array","prefixItems":[{"type":"null"}],"minItems":1}"#,
-        r#"{"additionalProperties":false,"properties":{"p":{"additionalProperties":false,"properties":{"b":{"items":false,"minItems":2,"prefixItems":[{"type":"integer"},{"additionalProperties":false,"properties":{"c":{"type":"null"}},"required":["c"],"type":"object"}],"type":"array"}},"required":["b"],"type":"object"}},"required":["p"],"type":"object"}"#,
-    ),
-    (
-        r#"{"a":[1,"x"]}"#,
-        "true",
-        r#"{"additionalProperties":false,"properties":{"a":{"items":false,"minItems":2,"prefixItems":[{"type":"integer"},{"type":"string"}],"type":"array"}},"required":["a"],"type":"object"}"#,
-    ),
-    (r#"{"p.$":"$.k"}"#, "false", "false"),
-    (
-        r#"{"l.$":"States.Array(1, 'a', null, true, $, States.Array())"}"#,
-        r#"{"type":"string"}"#,
-        r#"{"additionalProperties":false,"properties":{"l":{"items":false,"minItems":6,"prefixItems":[{"type":"integer"},{"type":"string"},{"type":"null"},{"type":"boolean"},{"type":"string"},{"items":false,"type":"array"}],"type":"array"}},"required":["l"],"type":"object"}"#,
-    ),
-    (
-        r#"{"l.$":"States.Array($.k)"}"#,
-        r#"{"type":"object"}"#,
-        r#"MayFail("l")"#,
-    ),
-    (
-        r#"{"n.$":"States.ArrayLength($)"}"#,
-        r#"{"type":"array"}"#,
-        r#"{"additionalProperties":false,"properties":{"n":{"type":"integer"}},"required":["n"],"type":"object"}"#,
-    ),
-    (
-        r#"{"n.$":"States.ArrayLength($)"}"#,
-        "true",
-        r#"MayFail("n")"#,
-    ),
-    (
-        r#"{"n.$":"States.ArrayLength($, $)"}"#,
-        r#"{"type":"array"}"#,
-        r#"MayFail("n")"#,
-    ),
-    (
-        r#"{"n.$":"States.ArrayLength()"}"#,
-        r#"{"type":"array"}"#,
-        r#"MayFail("n")"#,
-    ),
-    (
-        r#"{"x.$":"States.Format('{}', $)"}"#,
-        r#"{"type":"array"}"#,
-        r#"MayFail("x")"#,
-    ),
-    (
-        r#"{"x.$":"States.Format('{}{}', $, true)"}"#,
-        r#"{"type":"integer"}"#,
-        r#"{"additionalProperties":false,"properties":{"x":{"type":"string"}},"required":["x"],"type":"object"}"#,
-    ),
-    (
-        r#"{"x.$":"States.Format('{}{}', $)"}"#,
-        r#"{"type":"integer"}"#,
-        r#"MayFail("x")"#,
-    ),
-    (
-        r#"{"x.$":"States.Format($)"}"#,
-        r#"{"type":"string"}"#,
-        r#"MayFail("x")"#,
-    ),
-    (r#"{"x.$":"States.Format()"}"#, "true", r#"MayFail("x")"#),
-    (r#"{"i.$":"$$.Map.Item.Index"}"#, "true", r#"MayFail("i")"#),
-    (r#"{"v.$":"$$.Map.Item.Value"}"#, "true", r#"MayFail("v")"#),
-    (
-        r#"{"l.$":"States.Array($$.Map.Item.Index)"}"#,
-        "true",
-        r#"MayFail("l")"#,
-    ),
-    (
-        r#"{"p.$":"$.a"}"#,
-        r#"{"type":["null","object"],"properties":{"a":{"type":"integer"}},"required":["a"],"additionalProperties":false}"#,
-        r#"MayBeMissing("p") null"#,
-    ),
-    (
-        r#"{"p.$":"$.a"}"#,
-        r#"{"type":["array","object"],"prefixItems":[false],"minItems":1,"properties":{"a":{"type":"integer"}},"required":["a"],"additionalProperties":false}"#,
-        r#"{"additionalProperties":false,"properties":{"p":{"type":"integer"}},"required":["p"],"type":"object"}"#,
-    ),
-    (
-        r#"{"p.$":"$"}"#,
-        r#"{"type":["string","null"]}"#,
-        r#"{"additionalProperties":false,"properties":{"p":{"type":["null","string"]}},"required":["p"],"type":"object"}"#,
-    ),
-    (
-        r#"{"x.$":"States.Format('{}', $)"}"#,
-        r#"{"type":["null","string"]}"#,
-        r#"{"additionalProperties":false,"properties":{"x":{"type":"string"}},"required":["x"],"type":"object"}"#,
-    ),
-    (
-        r#"{"x.$":"States.Format('{}', $)"}"#,
-        r#"{"type":["array","string"]}"#,
-        r#"MayFail("x")"#,
-    ),
-    (
-        r#"{"x.$":"States.Format('{}', $)"}"#,
-        r#"{"type":["array","string"],"prefixItems":[false],"minItems":1}"#,
-        r#"{"additionalProperties":false,"properties":{"x":{"type":"string"}},"required":["x"],"type":"object"}"#,
-    ),
-    (
-        r#"{"n.$":"States.ArrayLength($)"}"#,
-        r#"{"type":["array","null"]}"#,
-        r#"MayFail("n")"#,
-    ),
-    (
-        r#"{"n.$":"States.ArrayLength($)"}"#,
-        r#"{"type":["array","object"],"prefixItems":[{"type":"integer"}],"minItems":1,"items":false,"properties":{"a":false},"required":["a"]}"#,
-        r#"{"additionalProperties":false,"properties":{"n":{"type":"integer"}},"required":["n"],"type":"object"}"#,
-    ),
-    (
-        r#"{"l.$":"States.Array($)"}"#,
-        r#"{"type":["integer","null"]}"#,
-        r#"{"additionalProperties":false,"properties":{"l":{"items":false,"minItems":1,"prefixItems":[{"type":["integer","null"]}],"type":"array"}},"required":["l"],"type":"object"}"#,
-    ),
-    (
-        r#"{"b.$":"$.y","a":[{"c.$":"$.x"}]}"#,
-        r#"{"type":"object","required":["z"]}"#,
-        r#"MayBeMissing("c") {"z":null}"#,
-    ),
-    (
-        r#"{"a.$":"States.Array($.x)","b.$":"$.x"}"#,
-        r#"{"type":"object"}"#,
-        r#"MayFail("a")"#,
-    ),
-    (
-        r#"{"p.$":"$.l[1].k"}"#,
-        r#"{"type":"object","properties":{"l":{"type":"array","prefixItems":[{"type":"string"},{"type":["array","null","object"],"prefixItems":[{"type":"integer"}],"minItems":1,"required":["k"]}],"minItems":2}},"required":["l"]}"#,
-        r#"MayBeMissing("p") {"l":["",[0]]}"#,
-    ),
-];
+const FILLED: Table = Table {
+    rows: 33,
+    text: r#"
+- {"p.$":"$"}
+  => {"type":"object","additionalProperties":false}
+  => {"additionalProperties":false,"properties":{"p":{"additionalProperties":false,"type":"object"}},"required":["p"],"type":"object"}
+- {"p.$":"$.k"} => {"type":"object","additionalProperties":false} => MayBeMissing("p") {}
+- {"p.$":"$.k"} => {"type":"object","properties":{"k":{"type":"null"}}} => MayBeMissing("p") {}
+- {"p":{"b":[1,{"c.$":"$[1]"}]}} => {"type":"array","prefixItems":[true],"minItems":1} => MayBeMissing("c") [null]
+- {"p":{"b":[1,{"c.$":"$[0]"}]}}
+  => {"type":"array","prefixItems":[{"type":"null"}],"minItems":1}
+  => {"additionalProperties":false,"properties":{"p":{"additionalProperties":false,"properties":{"b":{"items":false,"minItems":2,"prefixItems":[{"type":"integer"},{"additionalProperties":false,"properties":{"c":{"type":"null"}},"required":["c"],"type":"object"}],"type":"array"}},"required":["b"],"type":"object"}},"required":["p"],"type":"object"}
+- {"a":[1,"x"]}
+  => true
+  => {"additionalProperties":false,"properties":{"a":{"items":false,"minItems":2,"prefixItems":[{"type":"integer"},{"type":"string"}],"type":"array"}},"required":["a"],"type":"object"}
+- {"p.$":"$.k"} => false => false
+- {"l.$":"States.Array(1, 'a', null, true, $, States.Array())"}
+  => {"type":"string"}
+  => {"additionalProperties":false,"properties":{"l":{"items":false,"minItems":6,"prefixItems":[{"type":"integer"},{"type":"string"},{"type":"null"},{"type":"boolean"},{"type":"string"},{"items":false,"type":"array"}],"type":"array"}},"required":["l"],"type":"object"}
+- {"l.$":"States.Array($.k)"} => {"type":"object"} => MayFail("l")
+- {"n.$":"States.ArrayLength($)"}
+  => {"type":"array"}
+  => {"additionalProperties":false,"properties":{"n":{"type":"integer"}},"required":["n"],"type":"object"}
+- {"n.$":"States.ArrayLength($)"} => true => MayFail("n")
+- {"n.$":"States.ArrayLength($, $)"} => {"type":"array"} => MayFail("n")
+- {"n.$":"States.ArrayLength()"} => {"type":"array"} => MayFail("n")
+- {"x.$":"States.Format('{}', $)"} => {"type":"array"} => MayFail("x")
+- {"x.$":"States.Format('{}{}', $, true)"}
+  => {"type":"integer"}
+  => {"additionalProperties":false,"properties":{"x":{"type":"string"}},"required":["x"],"type":"object"}
+- {"x.$":"States.Format('{}{}', $)"} => {"type":"integer"} => MayFail("x")
+- {"x.$":"States.Format($)"} => {"type":"string"} => MayFail("x")
+- {"x.$":"States.Format()"} => true => MayFail("x")
+- {"i.$":"$$.Map.Item.Index"} => true => MayFail("i")
+- {"v.$":"$$.Map.Item.Value"} => true => MayFail("v")
+- {"l.$":"States.Array($$.Map.Item.Index)"} => true => MayFail("l")
+- {"p.$":"$.a"}
+  => {"type":["null","object"],"properties":{"a":{"type":"integer"}},"required":["a"],"additionalProperties":false}
+  => MayBeMissing("p") null
+- {"p.$":"$.a"}
+  => {"type":["array","object"],"prefixItems":[false],"minItems":1,"properties":{"a":{"type":"integer"}},"required":["a"],"additionalProperties":false}
+  => {"additionalProperties":false,"properties":{"p":{"type":"integer"}},"required":["p"],"type":"object"}
+- {"p.$":"$"}
+  => {"type":["string","null"]}
+  => {"additionalProperties":false,"properties":{"p":{"type":["null","string"]}},"required":["p"],"type":"object"}
+- {"x.$":"States.Format('{}', $)"}
+  => {"type":["null","string"]}
+  => {"additionalProperties":false,"properties":{"x":{"type":"string"}},"required":["x"],"type":"object"}
+- {"x.$":"States.Format('{}', $)"} => {"type":["array","string"]} => MayFail("x")
+- {"x.$":"States.Format('{}', $)"}
+  => {"type":["array","string"],"prefixItems":[false],"minItems":1}
+  => {"additionalProperties":false,"properties":{"x":{"type":"string"}},"required":["x"],"type":"object"}
+- {"n.$":"States.ArrayLength($)"} => {"type":["array","null"]} => MayFail("n")
+- {"n.$":"States.ArrayLength($)"}
+  => {"type":["array","object"],"prefixItems":[{"type":"integer"}],"minItems":1,"items":false,"properties":{"a":false},"required":["a"]}
+  => {"additionalProperties":false,"properties":{"n":{"type":"integer"}},"required":["n"],"type":"object"}
+- {"l.$":"States.Array($)"}
+  => {"type":["integer","null"]}
+  => {"additionalProperties":false,"properties":{"l":{"items":false,"minItems":1,"prefixItems":[{"type":["integer","null"]}],"type":"array"}},"required":["l"],"type":"object"}
+- {"b.$":"$.y","a":[{"c.$":"$.x"}]} => {"type":"object","required":["z"]} => MayBeMissing("c") {"z":null}
+- {"a.$":"States.Array($.x)","b.$":"$.x"} => {"type":"object"} => MayFail("a")
+- {"p.$":"$.l[1].k"}
+  => {"type":"object","properties":{"l":{"type":"array","prefixItems":[{"type":"string"},{"type":["array","null","object"],"prefixItems":[{"type":"integer"}],"minItems":1,"required":["k"]}],"minItems":2}},"required":["l"]}
+  => MayBeMissing("p") {"l":["",[0]]}
+"#,
+};
 
 /// A template, the shape of its input, that of the item, and the shape of the template's value, or the refusal.
 const WITH_ITEM: [(&str, &str, &str, &str); 7] = [
@@ -463,13 +306,21 @@ fn filled(
     }
 }
 
+/// The shape of the template's value without an item, or the refusal, is the one that is wanted.
+#[derive(Drop)]
+struct FilledWithout;
+
+impl Rows for FilledWithout {
+    fn expect(&mut self, rt: &impl Abort, alloc: Global, row: Row) {
+        let (spelling, input, wanted) = three(rt, row);
+        let told = filled(rt, alloc, spelling, input, None);
+        expect_text(rt, told, wanted, &[spelling, input]);
+    }
+}
+
 #[test]
 fn templates(rt: HostRuntime) {
-    let alloc = rt.alloc();
-    for (spelling, input, wanted) in &FILLED {
-        let told = filled(&rt, alloc, spelling, input, None);
-        expect_text(&rt, told, wanted, &[spelling, input]);
-    }
+    each_row(&rt, rt.alloc(), &FILLED, &mut FilledWithout);
 }
 
 #[test]
@@ -506,172 +357,86 @@ fn literals(rt: HostRuntime) {
 }
 
 /// A shape, a path, and the shape of what it names in every tree of that one, or the refusal.
-const NAMED: [(&str, &str, &str); 18] = [
-    (
-        r#"{"type":"object","properties":{"a":{"type":"integer"}},"additionalProperties":false}"#,
-        "$.a",
-        "MayBeMissing(0)",
-    ),
-    (
-        r#"{"type":"object","properties":{"a":{"type":"integer"}},"required":["a"]}"#,
-        "$.a",
-        r#"{"type":"integer"}"#,
-    ),
-    (
-        r#"{"type":"object","properties":{"a":{"type":"object","required":["b"]}},"required":["a"]}"#,
-        "$.a.b",
-        "true",
-    ),
-    (
-        r#"{"type":"object","properties":{"a":{"type":"object","required":["b"]}},"required":["a"]}"#,
-        "$.a.c",
-        "MayBeMissing(1)",
-    ),
-    (
-        r#"{"type":"array","prefixItems":[{"type":"integer"},{"type":"string"}],"minItems":2}"#,
-        "$[1]",
-        r#"{"type":"string"}"#,
-    ),
-    (
-        r#"{"type":"array","prefixItems":[{"type":"integer"},{"type":"string"}],"minItems":2}"#,
-        "$[2]",
-        "MayBeMissing(0)",
-    ),
-    (r#"{"type":"string"}"#, "$", r#"{"type":"string"}"#),
-    (r#"{"type":"string"}"#, "$.a", "MayBeMissing(0)"),
-    ("true", "$[0]", "MayBeMissing(0)"),
-    ("false", "$.a", "false"),
-    (
-        r#"{"type":"object","properties":{"b":false},"required":["b"]}"#,
-        "$.a",
-        "false",
-    ),
-    (
-        r#"{"type":["null","object"],"properties":{"a":{"type":"integer"}},"required":["a"],"additionalProperties":false}"#,
-        "$.a",
-        "MayBeMissing(0)",
-    ),
-    (
-        r#"{"type":["null","object"],"properties":{"a":{"type":"integer"}},"required":["a"],"additionalProperties":false}"#,
-        "$",
-        r#"{"additionalProperties":false,"properties":{"a":{"type":"integer"}},"required":["a"],"type":["null","object"]}"#,
-    ),
-    (
-        r#"{"type":["array","object"],"prefixItems":[false],"minItems":1,"properties":{"a":{"type":"integer"}},"required":["a"],"additionalProperties":false}"#,
-        "$.a",
-        r#"{"type":"integer"}"#,
-    ),
-    (
-        r#"{"type":["array","object"],"prefixItems":[{"type":"integer"}],"minItems":1,"items":false,"properties":{"a":false},"required":["a"]}"#,
-        "$[0]",
-        r#"{"type":"integer"}"#,
-    ),
-    (
-        r#"{"type":["array","object"],"prefixItems":[false],"minItems":1,"properties":{"a":{"type":"integer"}},"required":["a"],"additionalProperties":false}"#,
-        "$[0]",
-        "MayBeMissing(0)",
-    ),
-    (
-        r#"{"type":"object","properties":{"b":{"type":["null","object"],"properties":{"a":{"type":"integer"}},"required":["a"],"additionalProperties":false}},"required":["b"]}"#,
-        "$.b.a",
-        "MayBeMissing(1)",
-    ),
-    (
-        r#"{"type":"object","properties":{"b":{"type":["integer","string"]}},"required":["b"]}"#,
-        "$.b",
-        r#"{"type":["integer","string"]}"#,
-    ),
-];
+const NAMED: Table = Table {
+    rows: 18,
+    text: r#"
+- {"type":"object","properties":{"a":{"type":"integer"}},"additionalProperties":false} => $.a => MayBeMissing(0)
+- {"type":"object","properties":{"a":{"type":"integer"}},"required":["a"]} => $.a => {"type":"integer"}
+- {"type":"object","properties":{"a":{"type":"object","required":["b"]}},"required":["a"]} => $.a.b => true
+- {"type":"object","properties":{"a":{"type":"object","required":["b"]}},"required":["a"]}
+  => $.a.c
+  => MayBeMissing(1)
+- {"type":"array","prefixItems":[{"type":"integer"},{"type":"string"}],"minItems":2} => $[1] => {"type":"string"}
+- {"type":"array","prefixItems":[{"type":"integer"},{"type":"string"}],"minItems":2} => $[2] => MayBeMissing(0)
+- {"type":"string"} => $ => {"type":"string"}
+- {"type":"string"} => $.a => MayBeMissing(0)
+- true => $[0] => MayBeMissing(0)
+- false => $.a => false
+- {"type":"object","properties":{"b":false},"required":["b"]} => $.a => false
+- {"type":["null","object"],"properties":{"a":{"type":"integer"}},"required":["a"],"additionalProperties":false}
+  => $.a
+  => MayBeMissing(0)
+- {"type":["null","object"],"properties":{"a":{"type":"integer"}},"required":["a"],"additionalProperties":false}
+  => $
+  => {"additionalProperties":false,"properties":{"a":{"type":"integer"}},"required":["a"],"type":["null","object"]}
+- {"type":["array","object"],"prefixItems":[false],"minItems":1,"properties":{"a":{"type":"integer"}},"required":["a"],"additionalProperties":false}
+  => $.a
+  => {"type":"integer"}
+- {"type":["array","object"],"prefixItems":[{"type":"integer"}],"minItems":1,"items":false,"properties":{"a":false},"required":["a"]}
+  => $[0]
+  => {"type":"integer"}
+- {"type":["array","object"],"prefixItems":[false],"minItems":1,"properties":{"a":{"type":"integer"}},"required":["a"],"additionalProperties":false}
+  => $[0]
+  => MayBeMissing(0)
+- {"type":"object","properties":{"b":{"type":["null","object"],"properties":{"a":{"type":"integer"}},"required":["a"],"additionalProperties":false}},"required":["b"]}
+  => $.b.a
+  => MayBeMissing(1)
+- {"type":"object","properties":{"b":{"type":["integer","string"]}},"required":["b"]}
+  => $.b
+  => {"type":["integer","string"]}
+"#,
+};
 
 /// A shape, a path, and a value of that shape in which the path names nothing, or `none`.
-const MISSING: [(&str, &str, &str); 22] = [
-    (
-        r#"{"type":"object","additionalProperties":false}"#,
-        "$.a",
-        "{}",
-    ),
-    (
-        r#"{"type":"object","properties":{"a":{"type":"integer"}}}"#,
-        "$.a",
-        "{}",
-    ),
-    (
-        r#"{"type":"object","properties":{"a":{"type":"integer"}},"required":["a"]}"#,
-        "$.a",
-        "none",
-    ),
-    (
-        r#"{"type":"object","properties":{"a":{"type":"object","required":["b"]},"c":{"type":"string"},"d":true},"required":["a","c"]}"#,
-        "$.a.c",
-        r#"{"a":{"b":null},"c":""}"#,
-    ),
-    (
-        r#"{"type":"array","prefixItems":[{"type":"integer"},{"type":"string"}],"minItems":2}"#,
-        "$[2]",
-        r#"[0,""]"#,
-    ),
-    (
-        r#"{"type":"array","prefixItems":[{"type":"integer"},{"type":"string"}],"minItems":2}"#,
-        "$.a",
-        r#"[0,""]"#,
-    ),
-    (r#"{"type":"string"}"#, "$.a", r#""""#),
-    (r#"{"type":"string"}"#, "$", "none"),
-    ("true", "$[0]", "null"),
-    ("true", "$.a.b", "null"),
-    ("true", "$", "none"),
-    ("false", "$.a", "none"),
-    (
-        r#"{"type":"object","properties":{"b":false},"required":["b"]}"#,
-        "$.a",
-        "none",
-    ),
-    (
-        r#"{"type":["null","object"],"properties":{"a":{"type":"integer"}},"required":["a"]}"#,
-        "$.a",
-        "null",
-    ),
-    (
-        r#"{"type":["null","object"],"properties":{"a":{"type":"integer"}},"required":["a"]}"#,
-        "$[0]",
-        "null",
-    ),
-    (
-        r#"{"type":["array","string"],"prefixItems":[{"type":"integer"}],"minItems":1}"#,
-        "$[0]",
-        r#""""#,
-    ),
-    (
-        r#"{"type":["array","object"],"prefixItems":[false],"minItems":1,"properties":{"a":{"type":"integer"}},"required":["a"]}"#,
-        "$.a",
-        "none",
-    ),
-    (
-        r#"{"type":["array","object"],"prefixItems":[false],"minItems":1,"properties":{"a":{"type":"integer"}},"required":["a"]}"#,
-        "$[0]",
-        r#"{"a":0}"#,
-    ),
-    (
-        r#"{"type":["array","object"],"prefixItems":[{"type":"integer"}],"minItems":1,"required":["a"]}"#,
-        "$.a",
-        "[0]",
-    ),
-    (
-        r#"{"type":["array","object"],"prefixItems":[{"type":"integer"}],"minItems":1,"required":["a"]}"#,
-        "$[0]",
-        r#"{"a":null}"#,
-    ),
-    (
-        r#"{"type":"object","properties":{"b":{"type":["null","object"],"properties":{"a":{"type":"integer"}},"required":["a"]}},"required":["b"]}"#,
-        "$.b.a",
-        r#"{"b":null}"#,
-    ),
-    (
-        r#"{"type":"array","prefixItems":[{"type":"object","properties":{"a":{"type":"array","prefixItems":[{"type":"null"}],"minItems":1},"b":{"type":"boolean"}},"required":["a","b"]},{"type":"integer"}],"minItems":2}"#,
-        "$[0].a[1].c",
-        r#"[{"a":[null],"b":false},0]"#,
-    ),
-];
+const MISSING: Table = Table {
+    rows: 22,
+    text: r#"
+- {"type":"object","additionalProperties":false} => $.a => {}
+- {"type":"object","properties":{"a":{"type":"integer"}}} => $.a => {}
+- {"type":"object","properties":{"a":{"type":"integer"}},"required":["a"]} => $.a => none
+- {"type":"object","properties":{"a":{"type":"object","required":["b"]},"c":{"type":"string"},"d":true},"required":["a","c"]}
+  => $.a.c
+  => {"a":{"b":null},"c":""}
+- {"type":"array","prefixItems":[{"type":"integer"},{"type":"string"}],"minItems":2} => $[2] => [0,""]
+- {"type":"array","prefixItems":[{"type":"integer"},{"type":"string"}],"minItems":2} => $.a => [0,""]
+- {"type":"string"} => $.a => ""
+- {"type":"string"} => $ => none
+- true => $[0] => null
+- true => $.a.b => null
+- true => $ => none
+- false => $.a => none
+- {"type":"object","properties":{"b":false},"required":["b"]} => $.a => none
+- {"type":["null","object"],"properties":{"a":{"type":"integer"}},"required":["a"]} => $.a => null
+- {"type":["null","object"],"properties":{"a":{"type":"integer"}},"required":["a"]} => $[0] => null
+- {"type":["array","string"],"prefixItems":[{"type":"integer"}],"minItems":1} => $[0] => ""
+- {"type":["array","object"],"prefixItems":[false],"minItems":1,"properties":{"a":{"type":"integer"}},"required":["a"]}
+  => $.a
+  => none
+- {"type":["array","object"],"prefixItems":[false],"minItems":1,"properties":{"a":{"type":"integer"}},"required":["a"]}
+  => $[0]
+  => {"a":0}
+- {"type":["array","object"],"prefixItems":[{"type":"integer"}],"minItems":1,"required":["a"]} => $.a => [0]
+- {"type":["array","object"],"prefixItems":[{"type":"integer"}],"minItems":1,"required":["a"]}
+  => $[0]
+  => {"a":null}
+- {"type":"object","properties":{"b":{"type":["null","object"],"properties":{"a":{"type":"integer"}},"required":["a"]}},"required":["b"]}
+  => $.b.a
+  => {"b":null}
+- {"type":"array","prefixItems":[{"type":"object","properties":{"a":{"type":"array","prefixItems":[{"type":"null"}],"minItems":1},"b":{"type":"boolean"}},"required":["a","b"]},{"type":"integer"}],"minItems":2}
+  => $[0].a[1].c
+  => [{"a":[null],"b":false},0]
+"#,
+};
 
 /// The tree is the one that is wanted: it has the shape, though not each tree of the shape has something that the path
 /// names, and it has nothing that it names.
@@ -713,134 +478,88 @@ fn expect_missing(rt: &impl Abort, alloc: Global, row: &(&str, &str, &str)) {
     }
 }
 
-#[test]
-fn missing_parts(rt: HostRuntime) {
-    let alloc = rt.alloc();
-    for row in &MISSING {
-        expect_missing(&rt, alloc, row);
+/// The value in which the path names nothing, or `none`, is the one that is wanted.
+#[derive(Drop)]
+struct MissingIn;
+
+impl Rows for MissingIn {
+    fn expect(&mut self, rt: &impl Abort, alloc: Global, row: Row) {
+        expect_missing(rt, alloc, &three(rt, row));
     }
 }
 
+#[test]
+fn missing_parts(rt: HostRuntime) {
+    each_row(&rt, rt.alloc(), &MISSING, &mut MissingIn);
+}
+
 /// A shape, a path, what is put there, and the shape that comes out, or the refusal.
-const PUT: [(&str, &str, &str, &str); 22] = [
-    (
-        r#"{"type":"object","additionalProperties":false}"#,
-        "$.a.b",
-        r#"{"type":"integer"}"#,
-        r#"{"additionalProperties":false,"properties":{"a":{"additionalProperties":false,"properties":{"b":{"type":"integer"}},"required":["b"],"type":"object"}},"required":["a"],"type":"object"}"#,
-    ),
-    (
-        r#"{"type":"object"}"#,
-        "$.a.b",
-        r#"{"type":"integer"}"#,
-        "MayNotFit(1)",
-    ),
-    (
-        r#"{"type":"object"}"#,
-        "$.a",
-        r#"{"type":"integer"}"#,
-        r#"{"properties":{"a":{"type":"integer"}},"required":["a"],"type":"object"}"#,
-    ),
-    (
-        r#"{"type":"object","additionalProperties":false}"#,
-        "$.a[0]",
-        r#"{"type":"integer"}"#,
-        "MayNotFit(1)",
-    ),
-    (
-        r#"{"type":"object","properties":{"a":{"type":"string"},"b":{"type":"null"}},"required":["a"]}"#,
-        "$.a",
-        r#"{"type":"integer"}"#,
-        r#"{"properties":{"a":{"type":"integer"},"b":{"type":"null"}},"required":["a"],"type":"object"}"#,
-    ),
-    (
-        r#"{"type":"object","properties":{"a":{"type":"object","properties":{"c":{"type":"string"}},"required":["c"],"additionalProperties":false}},"additionalProperties":false}"#,
-        "$.a.b",
-        r#"{"type":"integer"}"#,
-        r#"{"additionalProperties":false,"properties":{"a":{"additionalProperties":false,"properties":{"b":{"type":"integer"},"c":{"type":"string"}},"required":["b"],"type":"object"}},"required":["a"],"type":"object"}"#,
-    ),
-    (
-        r#"{"type":"object","properties":{"a":{"type":"string"}}}"#,
-        "$.a",
-        r#"{"type":"integer"}"#,
-        r#"{"properties":{"a":{"type":"integer"}},"required":["a"],"type":"object"}"#,
-    ),
-    (
-        r#"{"type":"object","properties":{"a":false}}"#,
-        "$.a.b",
-        r#"{"type":"integer"}"#,
-        r#"{"properties":{"a":{"additionalProperties":false,"properties":{"b":{"type":"integer"}},"required":["b"],"type":"object"}},"required":["a"],"type":"object"}"#,
-    ),
-    (
-        r#"{"type":"object","properties":{"a":{"type":"string"}}}"#,
-        "$.a.b",
-        r#"{"type":"integer"}"#,
-        "MayNotFit(1)",
-    ),
-    (
-        r#"{"type":"array","prefixItems":[{"type":"string"},{"type":"null"}],"minItems":2}"#,
-        "$[0]",
-        r#"{"type":"integer"}"#,
-        r#"{"minItems":2,"prefixItems":[{"type":"integer"},{"type":"null"}],"type":"array"}"#,
-    ),
-    (
-        r#"{"type":"array","prefixItems":[{"type":"string"}],"minItems":1}"#,
-        "$[1]",
-        r#"{"type":"integer"}"#,
-        "MayNotFit(0)",
-    ),
-    (
-        r#"{"type":"array","prefixItems":[{"type":"object"}],"minItems":1,"items":false}"#,
-        "$[0].a",
-        r#"{"type":"integer"}"#,
-        r#"{"items":false,"minItems":1,"prefixItems":[{"properties":{"a":{"type":"integer"}},"required":["a"],"type":"object"}],"type":"array"}"#,
-    ),
-    (
-        r#"{"type":"string"}"#,
-        "$",
-        r#"{"type":"integer"}"#,
-        r#"{"type":"integer"}"#,
-    ),
-    (
-        r#"{"type":"string"}"#,
-        "$.a",
-        r#"{"type":"integer"}"#,
-        "MayNotFit(0)",
-    ),
-    ("true", "$.a", r#"{"type":"integer"}"#, "MayNotFit(0)"),
-    ("false", "$.a", r#"{"type":"integer"}"#, "false"),
-    (r#"{"type":"string"}"#, "$.a", "false", "false"),
-    (
-        r#"{"type":["null","object"],"properties":{"a":{"type":"integer"}},"required":["a"],"additionalProperties":false}"#,
-        "$.b",
-        r#"{"type":"string"}"#,
-        "MayNotFit(0)",
-    ),
-    (
-        r#"{"type":["array","object"],"prefixItems":[false],"minItems":1,"properties":{"a":{"type":"integer"}},"required":["a"],"additionalProperties":false}"#,
-        "$.b",
-        r#"{"type":["string","null"]}"#,
-        r#"{"additionalProperties":false,"properties":{"a":{"type":"integer"},"b":{"type":["null","string"]}},"required":["a","b"],"type":"object"}"#,
-    ),
-    (
-        r#"{"type":["array","object"],"prefixItems":[{"type":"integer"}],"minItems":1,"items":false,"properties":{"a":false},"required":["a"]}"#,
-        "$[0]",
-        r#"{"type":"string"}"#,
-        r#"{"items":false,"minItems":1,"prefixItems":[{"type":"string"}],"type":"array"}"#,
-    ),
-    (
-        r#"{"type":["null","object"],"properties":{"a":{"type":"integer"}},"required":["a"],"additionalProperties":false}"#,
-        "$",
-        r#"{"type":"string"}"#,
-        r#"{"type":"string"}"#,
-    ),
-    (
-        r#"{"type":"object","properties":{"a":{"type":["null","object"]}},"additionalProperties":false}"#,
-        "$.a.b",
-        r#"{"type":"integer"}"#,
-        "MayNotFit(1)",
-    ),
-];
+const PUT: Table = Table {
+    rows: 22,
+    text: r#"
+- {"type":"object","additionalProperties":false}
+  => $.a.b
+  => {"type":"integer"}
+  => {"additionalProperties":false,"properties":{"a":{"additionalProperties":false,"properties":{"b":{"type":"integer"}},"required":["b"],"type":"object"}},"required":["a"],"type":"object"}
+- {"type":"object"} => $.a.b => {"type":"integer"} => MayNotFit(1)
+- {"type":"object"}
+  => $.a
+  => {"type":"integer"}
+  => {"properties":{"a":{"type":"integer"}},"required":["a"],"type":"object"}
+- {"type":"object","additionalProperties":false} => $.a[0] => {"type":"integer"} => MayNotFit(1)
+- {"type":"object","properties":{"a":{"type":"string"},"b":{"type":"null"}},"required":["a"]}
+  => $.a
+  => {"type":"integer"}
+  => {"properties":{"a":{"type":"integer"},"b":{"type":"null"}},"required":["a"],"type":"object"}
+- {"type":"object","properties":{"a":{"type":"object","properties":{"c":{"type":"string"}},"required":["c"],"additionalProperties":false}},"additionalProperties":false}
+  => $.a.b
+  => {"type":"integer"}
+  => {"additionalProperties":false,"properties":{"a":{"additionalProperties":false,"properties":{"b":{"type":"integer"},"c":{"type":"string"}},"required":["b"],"type":"object"}},"required":["a"],"type":"object"}
+- {"type":"object","properties":{"a":{"type":"string"}}}
+  => $.a
+  => {"type":"integer"}
+  => {"properties":{"a":{"type":"integer"}},"required":["a"],"type":"object"}
+- {"type":"object","properties":{"a":false}}
+  => $.a.b
+  => {"type":"integer"}
+  => {"properties":{"a":{"additionalProperties":false,"properties":{"b":{"type":"integer"}},"required":["b"],"type":"object"}},"required":["a"],"type":"object"}
+- {"type":"object","properties":{"a":{"type":"string"}}} => $.a.b => {"type":"integer"} => MayNotFit(1)
+- {"type":"array","prefixItems":[{"type":"string"},{"type":"null"}],"minItems":2}
+  => $[0]
+  => {"type":"integer"}
+  => {"minItems":2,"prefixItems":[{"type":"integer"},{"type":"null"}],"type":"array"}
+- {"type":"array","prefixItems":[{"type":"string"}],"minItems":1} => $[1] => {"type":"integer"} => MayNotFit(0)
+- {"type":"array","prefixItems":[{"type":"object"}],"minItems":1,"items":false}
+  => $[0].a
+  => {"type":"integer"}
+  => {"items":false,"minItems":1,"prefixItems":[{"properties":{"a":{"type":"integer"}},"required":["a"],"type":"object"}],"type":"array"}
+- {"type":"string"} => $ => {"type":"integer"} => {"type":"integer"}
+- {"type":"string"} => $.a => {"type":"integer"} => MayNotFit(0)
+- true => $.a => {"type":"integer"} => MayNotFit(0)
+- false => $.a => {"type":"integer"} => false
+- {"type":"string"} => $.a => false => false
+- {"type":["null","object"],"properties":{"a":{"type":"integer"}},"required":["a"],"additionalProperties":false}
+  => $.b
+  => {"type":"string"}
+  => MayNotFit(0)
+- {"type":["array","object"],"prefixItems":[false],"minItems":1,"properties":{"a":{"type":"integer"}},"required":["a"],"additionalProperties":false}
+  => $.b
+  => {"type":["string","null"]}
+  => {"additionalProperties":false,"properties":{"a":{"type":"integer"},"b":{"type":["null","string"]}},"required":["a","b"],"type":"object"}
+- {"type":["array","object"],"prefixItems":[{"type":"integer"}],"minItems":1,"items":false,"properties":{"a":false},"required":["a"]}
+  => $[0]
+  => {"type":"string"}
+  => {"items":false,"minItems":1,"prefixItems":[{"type":"string"}],"type":"array"}
+- {"type":["null","object"],"properties":{"a":{"type":"integer"}},"required":["a"],"additionalProperties":false}
+  => $
+  => {"type":"string"}
+  => {"type":"string"}
+- {"type":"object","properties":{"a":{"type":["null","object"]}},"additionalProperties":false}
+  => $.a.b
+  => {"type":"integer"}
+  => MayNotFit(1)
+"#,
+};
 
 /// The shape of what the path names as it is written, or the refusal.
 fn named(rt: &impl Abort, alloc: Global, given: &str, text: &str) -> String {
@@ -851,12 +570,20 @@ fn named(rt: &impl Abort, alloc: Global, given: &str, text: &str) -> String {
     }
 }
 
+/// The shape of what the path names, or the refusal, is the one that is wanted.
+#[derive(Drop)]
+struct NamedIn;
+
+impl Rows for NamedIn {
+    fn expect(&mut self, rt: &impl Abort, alloc: Global, row: Row) {
+        let (given, path, wanted) = three(rt, row);
+        expect_text(rt, named(rt, alloc, given, path), wanted, &[path, given]);
+    }
+}
+
 #[test]
 fn named_parts(rt: HostRuntime) {
-    let alloc = rt.alloc();
-    for (given, path, wanted) in &NAMED {
-        expect_text(&rt, named(&rt, alloc, given, path), wanted, &[path, given]);
-    }
+    each_row(&rt, rt.alloc(), &NAMED, &mut NamedIn);
 }
 
 /// The shape with another put where the path leads as it is written, or the refusal.
@@ -874,80 +601,53 @@ fn changed(rt: &impl Abort, alloc: Global, given: &str, text: &str, placed: &str
     }
 }
 
+/// The shape with another put where the path leads, or the refusal, is the one that is wanted.
+#[derive(Drop)]
+struct PutInto;
+
+impl Rows for PutInto {
+    fn expect(&mut self, rt: &impl Abort, alloc: Global, row: Row) {
+        let (given, path, placed, wanted) = four(rt, row);
+        let told = changed(rt, alloc, given, path, placed);
+        expect_text(rt, told, wanted, &[path, given]);
+    }
+}
+
 #[test]
 fn changed_parts(rt: HostRuntime) {
-    let alloc = rt.alloc();
-    for (given, path, placed, wanted) in &PUT {
-        let told = changed(&rt, alloc, given, path, placed);
-        expect_text(&rt, told, wanted, &[path, given]);
-    }
+    each_row(&rt, rt.alloc(), &PUT, &mut PutInto);
 }
 
 /// `ResultSelector`, `ResultPath` and `OutputPath` of a Pass, the shapes of its raw input and of its result, and the
 /// shape of its output, or the refusal.
-const OUTPUTS: [((&str, &str, &str), &str, &str, &str); 11] = [
-    (
-        ("", "$", "$"),
-        r#"{"type":"integer"}"#,
-        r#"{"type":"integer"}"#,
-        r#"{"type":"integer"}"#,
-    ),
-    (
-        ("", "$.a.b", "$.a"),
-        r#"{"type":"object","additionalProperties":false}"#,
-        r#"{"type":"integer"}"#,
-        r#"{"additionalProperties":false,"properties":{"b":{"type":"integer"}},"required":["b"],"type":"object"}"#,
-    ),
-    (
-        ("", "", "$"),
-        r#"{"type":"string"}"#,
-        r#"{"type":"integer"}"#,
-        r#"{"type":"string"}"#,
-    ),
-    (
-        ("", "$", ""),
-        r#"{"type":"string"}"#,
-        r#"{"type":"integer"}"#,
-        r#"{"additionalProperties":false,"type":"object"}"#,
-    ),
-    (
-        (r#"{"n.$":"$"}"#, "$", "$.n"),
-        r#"{"type":"string"}"#,
-        r#"{"type":"integer"}"#,
-        r#"{"type":"integer"}"#,
-    ),
-    (
-        ("", "$", "$.b"),
-        "true",
-        r#"{"type":"object"}"#,
-        r#"MayBeMissing("OutputPath") {}"#,
-    ),
-    (
-        ("", "$.a", "$.b"),
-        r#"{"type":"object","properties":{"b":{"type":"string"}},"additionalProperties":false}"#,
-        r#"{"type":"integer"}"#,
-        r#"MayBeMissing("OutputPath") {"a":0}"#,
-    ),
-    (
-        (r#"{"m.$":"$.n","k.$":"$.o"}"#, "$", "$"),
-        "true",
-        r#"{"type":"object","required":["p"]}"#,
-        r#"MayBeMissing("ResultSelector") {"p":null}"#,
-    ),
-    (
-        ("", "$.a.b", "$"),
-        r#"{"type":"object","properties":{"a":{"type":"string"}},"required":["a"]}"#,
-        "true",
-        r#"MayNotFit("ResultPath")"#,
-    ),
-    (
-        (r#"{"n.$":"States.ArrayLength($)"}"#, "$", "$"),
-        "true",
-        r#"{"type":"integer"}"#,
-        r#"MayFail("ResultSelector")"#,
-    ),
-    (("", "$", "$.b"), "false", "true", "false"),
-];
+const OUTPUTS: Table = Table {
+    rows: 11,
+    text: r#"
+-  => $ => $ => {"type":"integer"} => {"type":"integer"} => {"type":"integer"}
+-  => $.a.b => $.a
+  => {"type":"object","additionalProperties":false}
+  => {"type":"integer"}
+  => {"additionalProperties":false,"properties":{"b":{"type":"integer"}},"required":["b"],"type":"object"}
+-  =>  => $ => {"type":"string"} => {"type":"integer"} => {"type":"string"}
+-  => $ =>  => {"type":"string"} => {"type":"integer"} => {"additionalProperties":false,"type":"object"}
+- {"n.$":"$"} => $ => $.n => {"type":"string"} => {"type":"integer"} => {"type":"integer"}
+-  => $ => $.b => true => {"type":"object"} => MayBeMissing("OutputPath") {}
+-  => $.a => $.b
+  => {"type":"object","properties":{"b":{"type":"string"}},"additionalProperties":false}
+  => {"type":"integer"}
+  => MayBeMissing("OutputPath") {"a":0}
+- {"m.$":"$.n","k.$":"$.o"} => $ => $
+  => true
+  => {"type":"object","required":["p"]}
+  => MayBeMissing("ResultSelector") {"p":null}
+-  => $.a.b => $
+  => {"type":"object","properties":{"a":{"type":"string"}},"required":["a"]}
+  => true
+  => MayNotFit("ResultPath")
+- {"n.$":"States.ArrayLength($)"} => $ => $ => true => {"type":"integer"} => MayFail("ResultSelector")
+-  => $ => $.b => false => true => false
+"#,
+};
 
 /// Why a state's output may not come about.
 fn fault_text(rt: &impl Abort, alloc: Global, fault: &FlowFault) -> String {
@@ -984,13 +684,22 @@ fn pass_left(
     left(rt, alloc, &pass(rt, alloc, "", fields), raw, work)
 }
 
+/// The shape of the output of a Pass, or the fault, is the one that is wanted.
+#[derive(Drop)]
+struct PassLeft;
+
+impl Rows for PassLeft {
+    fn expect(&mut self, rt: &impl Abort, alloc: Global, row: Row) {
+        let (fields, row) = first_three(rt, row);
+        let (raw, work, wanted) = three(rt, row);
+        let told = pass_left(rt, alloc, fields, raw, work);
+        expect_text(rt, told, wanted, &[raw, work]);
+    }
+}
+
 #[test]
 fn outputs(rt: HostRuntime) {
-    let alloc = rt.alloc();
-    for (fields, raw, work, wanted) in &OUTPUTS {
-        let told = pass_left(&rt, alloc, *fields, raw, work);
-        expect_text(&rt, told, wanted, &[raw, work]);
-    }
+    each_row(&rt, rt.alloc(), &OUTPUTS, &mut PassLeft);
 }
 
 /// An integer.

@@ -11,4 +11,6 @@ mod flows;
 #[cfg(test)]
 mod given;
 #[cfg(test)]
+mod tables;
+#[cfg(test)]
 mod told;

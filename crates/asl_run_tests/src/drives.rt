@@ -28,7 +28,7 @@ const ENDLESS: &str = r#"{"StartAt":"A","States":{"A":{"Type":"Pass","Next":"A"}
 struct Drive {
     definition: &'static str,
     input: &'static str,
-    answers: &'static [Happening],
+    answers: &'static [Happening<'static>],
     max_steps: u64,
     stop: &'static str,
     trace: &'static [&'static str],

@@ -20,3 +20,5 @@ mod reports;
 mod runs;
 #[cfg(test)]
 mod suites;
+#[cfg(test)]
+mod tables;

@@ -1,6 +1,7 @@
 //! Definitions and what they are read as, each call once with ample memory.
 use crate::expecting::expect_text;
 use crate::runs::machine;
+use crate::tables::{Row, Rows, Table, each_row, two};
 use asl_machine::{DefRefusal, Kind, Machine, State, Target, read};
 use asl_tree::read_value;
 use std::alloc::Global;
@@ -170,124 +171,67 @@ fn retriers(rt: HostRuntime) {
 }
 
 /// A definition, and the number of its states or the refusal.
-const DEFINITIONS: [(&str, &str); 28] = [
-    (
-        r#"{"StartAt":"A","States":{"A":{"Type":"Pass","End":true}}}"#,
-        "1",
-    ),
-    (r#"[]"#, "NotObject  "),
-    (
-        r#"{"States":{"A":{"Type":"Pass","End":true}}}"#,
-        "MissingField  StartAt",
-    ),
-    (
-        r#"{"StartAt":"A","States":{"A":{"Type":"Pass","End":1,"Next":"A"}}}"#,
-        "WrongKind A End",
-    ),
-    (
-        r#"{"StartAt":"A","States":{"A":{"Type":"Pass","End":true,"Colour":1}}}"#,
-        "UnknownField A Colour",
-    ),
-    (
-        r#"{"StartAt":"A","States":{"A":{"Type":"Pass","End":true,"Assign":{}}}}"#,
-        "LeftOut A Assign",
-    ),
-    (
-        r#"{"StartAt":"A","States":{"A":{"Type":"Parallel","End":true,"Branches":[{"StartAt":"A","States":{"A":{"Type":"Pass","End":true}}}]}}}"#,
-        "DuplicateName A States",
-    ),
-    (
-        r#"{"StartAt":"A","States":{"A":{"Type":"Pass","Next":"Z"}}}"#,
-        "NoSuchState A Next",
-    ),
-    (
-        r#"{"StartAt":"A","States":{"A":{"Type":"Pass"}}}"#,
-        "NextOrEnd A Next",
-    ),
-    (
-        r#"{"StartAt":"A","States":{"A":{"Type":"Pass","End":true,"InputPath":"a"}}}"#,
-        "BadPath A InputPath",
-    ),
-    (
-        r#"{"StartAt":"A","States":{"A":{"Type":"Choice","Choices":[{}]}}}"#,
-        "BadRule A Choices",
-    ),
-    (
-        r#"{"StartAt":"A","States":{"A":{"Type":"Choice","Choices":[]}}}"#,
-        "EmptyList A Choices",
-    ),
-    (
-        r#"{"StartAt":"A","States":{"A":{"Type":"Choice","Choices":[{"Variable":"$.a","NumericEquals":1.5,"Next":"A"}]}}}"#,
-        "NotWhole A Choices",
-    ),
-    (
-        r#"{"StartAt":"A","States":{"A":{"Type":"Pass","End":true,"Parameters":{"x":1.5}}}}"#,
-        "NotWhole A Parameters",
-    ),
-    (
-        r#"{"StartAt":"A","States":{"A":{"Type":"Task","Resource":"r","End":true,"Retry":[{"ErrorEquals":["States.ALL","E"]}]}}}"#,
-        "BadErrorEquals A Retry",
-    ),
-    (
-        r#"{"StartAt":"A","States":{"A":{"Type":"Task","Resource":"r","End":true,"TimeoutSeconds":5,"HeartbeatSeconds":5}}}"#,
-        "HeartbeatNotSmaller A HeartbeatSeconds",
-    ),
-    (
-        r#"{"StartAt":"A","States":{"A":{"Type":"Choise","End":true}}}"#,
-        "UnknownType A Type",
-    ),
-    (
-        r#"{"StartAt":"A","States":{"A":{"Type":"Pass","End":true,"Result":1.5}}}"#,
-        "NotWhole A Result",
-    ),
-    (
-        r#"{"StartAt":"A","States":{"A":{"Type":"Pass","End":true,"Parameters":{"x.$":"$.n","x":1}}}}"#,
-        "BadTemplate A Parameters",
-    ),
-    (
-        r#"{"StartAt":"A","States":{"A":{"Type":"Task","Resource":"r","End":true,"Retry":[{"ErrorEquals":["E"],"BackoffRate":1.5}]}}}"#,
-        "1",
-    ),
-    (
-        r#"{"StartAt":"A","States":{"A":{"Type":"Task","Resource":"r","End":true,"Retry":[{"ErrorEquals":["E"],"MaxAttempts":-1}]}}}"#,
-        "WrongKind A Retry",
-    ),
-    (
-        r#"{"StartAt":"A","States":{"A":{"Type":"Task","Resource":"r","End":true,"Catch":[{"ErrorEquals":["E"],"Next":"Z"}]}}}"#,
-        "NoSuchState A Catch",
-    ),
-    (
-        r#"{"StartAt":"A","States":{"A":{"Type":"Choice","Choices":[{"Variable":"$.a","IsNull":true,"Next":"Z"}]}}}"#,
-        "NoSuchState A Choices",
-    ),
-    (
-        r#"{"StartAt":"A","States":{"A":{"Type":"Wait","End":true}}}"#,
-        "MissingField A Seconds",
-    ),
-    (
-        r#"{"StartAt":"A","States":{"A":{"Type":"Wait","End":true,"Seconds":1,"Timestamp":"t"}}}"#,
-        "WrongKind A Timestamp",
-    ),
-    (
-        r#"{"StartAt":"A","States":{"A":{"Type":"Map","End":true}}}"#,
-        "MissingField A ItemProcessor",
-    ),
-    (
-        r#"{"StartAt":"A","States":{"A":{"Type":"Map","End":true,"Iterator":{"StartAt":"B","States":{"B":{"Type":"Succeed"}}},"Parameters":{"i.$":"$$.Map.Item.Index"}}}}"#,
-        "2",
-    ),
-    (
-        r#"{"StartAt":"A","States":{"A":{"Type":"Parallel","End":true,"Branches":[{"StartAt":"Z","States":{"B":{"Type":"Succeed"}}}]}}}"#,
-        "NoSuchState A Branches",
-    ),
-];
+const DEFINITIONS: Table = Table {
+    rows: 27,
+    text: r#"
+- {"StartAt":"A","States":{"A":{"Type":"Pass","End":true}}} => 1
+- {"States":{"A":{"Type":"Pass","End":true}}} => MissingField  StartAt
+- {"StartAt":"A","States":{"A":{"Type":"Pass","End":1,"Next":"A"}}} => WrongKind A End
+- {"StartAt":"A","States":{"A":{"Type":"Pass","End":true,"Colour":1}}} => UnknownField A Colour
+- {"StartAt":"A","States":{"A":{"Type":"Pass","End":true,"Assign":{}}}} => LeftOut A Assign
+- {"StartAt":"A","States":{"A":{"Type":"Parallel","End":true,"Branches":[{"StartAt":"A","States":{"A":{"Type":"Pass","End":true}}}]}}}
+  => DuplicateName A States
+- {"StartAt":"A","States":{"A":{"Type":"Pass","Next":"Z"}}} => NoSuchState A Next
+- {"StartAt":"A","States":{"A":{"Type":"Pass"}}} => NextOrEnd A Next
+- {"StartAt":"A","States":{"A":{"Type":"Pass","End":true,"InputPath":"a"}}} => BadPath A InputPath
+- {"StartAt":"A","States":{"A":{"Type":"Choice","Choices":[{}]}}} => BadRule A Choices
+- {"StartAt":"A","States":{"A":{"Type":"Choice","Choices":[]}}} => EmptyList A Choices
+- {"StartAt":"A","States":{"A":{"Type":"Choice","Choices":[{"Variable":"$.a","NumericEquals":1.5,"Next":"A"}]}}}
+  => NotWhole A Choices
+- {"StartAt":"A","States":{"A":{"Type":"Pass","End":true,"Parameters":{"x":1.5}}}} => NotWhole A Parameters
+- {"StartAt":"A","States":{"A":{"Type":"Task","Resource":"r","End":true,"Retry":[{"ErrorEquals":["States.ALL","E"]}]}}}
+  => BadErrorEquals A Retry
+- {"StartAt":"A","States":{"A":{"Type":"Task","Resource":"r","End":true,"TimeoutSeconds":5,"HeartbeatSeconds":5}}}
+  => HeartbeatNotSmaller A HeartbeatSeconds
+- {"StartAt":"A","States":{"A":{"Type":"Choise","End":true}}} => UnknownType A Type
+- {"StartAt":"A","States":{"A":{"Type":"Pass","End":true,"Result":1.5}}} => NotWhole A Result
+- {"StartAt":"A","States":{"A":{"Type":"Pass","End":true,"Parameters":{"x.$":"$.n","x":1}}}}
+  => BadTemplate A Parameters
+- {"StartAt":"A","States":{"A":{"Type":"Task","Resource":"r","End":true,"Retry":[{"ErrorEquals":["E"],"BackoffRate":1.5}]}}}
+  => 1
+- {"StartAt":"A","States":{"A":{"Type":"Task","Resource":"r","End":true,"Retry":[{"ErrorEquals":["E"],"MaxAttempts":-1}]}}}
+  => WrongKind A Retry
+- {"StartAt":"A","States":{"A":{"Type":"Task","Resource":"r","End":true,"Catch":[{"ErrorEquals":["E"],"Next":"Z"}]}}}
+  => NoSuchState A Catch
+- {"StartAt":"A","States":{"A":{"Type":"Choice","Choices":[{"Variable":"$.a","IsNull":true,"Next":"Z"}]}}}
+  => NoSuchState A Choices
+- {"StartAt":"A","States":{"A":{"Type":"Wait","End":true}}} => MissingField A Seconds
+- {"StartAt":"A","States":{"A":{"Type":"Wait","End":true,"Seconds":1,"Timestamp":"t"}}} => WrongKind A Timestamp
+- {"StartAt":"A","States":{"A":{"Type":"Map","End":true}}} => MissingField A ItemProcessor
+- {"StartAt":"A","States":{"A":{"Type":"Map","End":true,"Iterator":{"StartAt":"B","States":{"B":{"Type":"Succeed"}}},"Parameters":{"i.$":"$$.Map.Item.Index"}}}}
+  => 2
+- {"StartAt":"A","States":{"A":{"Type":"Parallel","End":true,"Branches":[{"StartAt":"Z","States":{"B":{"Type":"Succeed"}}}]}}}
+  => NoSuchState A Branches
+"#,
+};
 
+/// The number of the states of the definition, or the refusal, is the one that is wanted.
+#[derive(Drop)]
+struct StatesOf;
+
+impl Rows for StatesOf {
+    fn expect(&mut self, rt: &impl Abort, alloc: Global, row: Row) {
+        let (definition, wanted) = two(rt, row);
+        expect_text(rt, answered(rt, alloc, definition), wanted, &[definition]);
+    }
+}
+
+// The refusal of what is no object has neither a state nor a field.
 #[test]
 fn definitions(rt: HostRuntime) {
-    let alloc = rt.alloc();
-    for (definition, wanted) in &DEFINITIONS {
-        expect_text(&rt, answered(&rt, alloc, definition), wanted, &[definition]);
-    }
+    let told = answered(&rt, rt.alloc(), "[]");
+    expect_text(&rt, told, "NotObject  ", &["[]"]);
+    each_row(&rt, rt.alloc(), &DEFINITIONS, &mut StatesOf);
 }
 
 /// Two branches, and a state behind them.

@@ -1,8 +1,11 @@
 //! Mock files.
+use crate::expecting::expect_text;
 use crate::suites::telling::{compare, refusal_text};
+use crate::tables::{Row, Rows, Table, each_row, two};
 use asl_suites::{CaseAnswers, Mocks, SuiteRefusal, read_mocks};
 use asl_tree::read;
 use std::alloc::Global;
+use std::process::Abort;
 use std::test::Fail;
 
 const FILE: &str = r#"{"StateMachines": {
@@ -87,64 +90,47 @@ fn attempts_are_answered(rt: HostRuntime) -> Result<(), Fail> {
 }
 
 /// Test cases, each with why it is refused.
-const REFUSED: [(&str, &str); 11] = [
-    (
-        "HappyPth",
-        r#"StateMachines.Refunds.TestCases: there is no test case "HappyPth" (did you mean "HappyPath"?)"#,
-    ),
-    (
-        "Quite different",
-        r#"StateMachines.Refunds.TestCases: there is no test case "Quite different""#,
-    ),
-    (
-        "Gap",
-        r#"MockedResponses.Gap."2": attempt 1 has no response, though a later one has"#,
-    ),
-    (
-        "Twice",
-        r#"MockedResponses.Twice."1": attempt 1 has a response already"#,
-    ),
-    (
-        "Back",
-        r#"MockedResponses.Back."2-1": attempts are named by a number, as "0", or by the first and the last, as "1-2""#,
-    ),
-    (
-        "Sign",
-        r#"MockedResponses.Sign."+0": attempts are named by a number, as "0", or by the first and the last, as "1-2""#,
-    ),
-    (
-        "Open",
-        r#"MockedResponses.Open."0-": attempts are named by a number, as "0", or by the first and the last, as "1-2""#,
-    ),
-    (
-        "Lost",
-        r#"StateMachines.Refunds.TestCases.Lost.A: there is no mocked response "LokedUp" (did you mean "LookedUp"?)"#,
-    ),
-    (
-        "Number",
-        "StateMachines.Refunds.TestCases.Number.A: a text is wanted here",
-    ),
-    (
-        "Text",
-        "StateMachines.Refunds.TestCases.Text: an object is wanted here",
-    ),
-    ("List", "MockedResponses.List: an object is wanted here"),
-];
+const REFUSED: Table = Table {
+    rows: 11,
+    text: r#"
+- HappyPth => StateMachines.Refunds.TestCases: there is no test case "HappyPth" (did you mean "HappyPath"?)
+- Quite different => StateMachines.Refunds.TestCases: there is no test case "Quite different"
+- Gap => MockedResponses.Gap."2": attempt 1 has no response, though a later one has
+- Twice => MockedResponses.Twice."1": attempt 1 has a response already
+- Back
+  => MockedResponses.Back."2-1": attempts are named by a number, as "0", or by the first and the last, as "1-2"
+- Sign
+  => MockedResponses.Sign."+0": attempts are named by a number, as "0", or by the first and the last, as "1-2"
+- Open
+  => MockedResponses.Open."0-": attempts are named by a number, as "0", or by the first and the last, as "1-2"
+- Lost => StateMachines.Refunds.TestCases.Lost.A: there is no mocked response "LokedUp" (did you mean "LookedUp"?)
+- Number => StateMachines.Refunds.TestCases.Number.A: a text is wanted here
+- Text => StateMachines.Refunds.TestCases.Text: an object is wanted here
+- List => MockedResponses.List: an object is wanted here
+"#,
+};
+
+/// The test case of this file is refused for this reason.
+#[derive(Drop)]
+struct RefusedOf {
+    mocks: Mocks,
+}
+
+impl Rows for RefusedOf {
+    fn expect(&mut self, rt: &impl Abort, alloc: Global, row: Row) {
+        let (test_case, wanted) = two(rt, row);
+        let answers = self.mocks.answers(alloc, test_case);
+        let refusal = answers.err().expect(rt, "a refusal");
+        expect_text(rt, refusal_text(rt, alloc, &refusal), wanted, &[test_case]);
+    }
+}
 
 #[test]
 fn test_cases_are_refused(rt: HostRuntime) -> Result<(), Fail> {
-    let alloc = rt.alloc();
-    let Ok(mocks) = mocks(alloc, FILE, "Refunds")? else {
+    let Ok(mocks) = mocks(rt.alloc(), FILE, "Refunds")? else {
         return Err(Fail::from("no mocks"));
     };
-    for &(test_case, wanted) in &REFUSED {
-        match mocks.answers(alloc, test_case) {
-            Ok(_) => return Err(Fail::from("answers")),
-            Err(refusal) => {
-                assert_eq!(rt; refusal_text(alloc, &refusal)?.as_str(), wanted);
-            }
-        }
-    }
+    each_row(&rt, rt.alloc(), &REFUSED, &mut RefusedOf { mocks });
     Ok(())
 }
 
@@ -180,7 +166,7 @@ fn mock_files_are_refused(rt: HostRuntime) -> Result<(), Fail> {
         match mocks(alloc, file, "M")? {
             Ok(_) => return Err(Fail::from("mocks")),
             Err(refusal) => {
-                assert_eq!(rt; refusal_text(alloc, &refusal)?.as_str(), wanted);
+                expect_text(&rt, refusal_text(&rt, alloc, &refusal), wanted, &[file]);
             }
         }
     }

@@ -1,4 +1,5 @@
 //! Suites, refusals and answers as texts.
+use crate::expecting::owned;
 use asl_run::Answer;
 use asl_suites::{CaseAnswers, SuiteRefusal};
 use asl_tree::to_text;
@@ -49,12 +50,12 @@ fn next_answers(
 }
 
 /// The place and the words of a refusal.
-pub fn refusal_text(alloc: Global, refusal: &SuiteRefusal) -> Result<String, Fail> {
+pub fn refusal_text(rt: &impl Abort, alloc: Global, refusal: &SuiteRefusal) -> String {
     match refusal {
         SuiteRefusal::Wrong { place, fault } => {
-            let words = fault.words(alloc)?;
-            Ok(format!(in alloc; "{place}: {words}")?)
+            let words = fault.words(alloc).expect(rt, "memory");
+            format!(in alloc; "{place}: {words}").expect(rt, "memory")
         }
-        SuiteRefusal::OutOfMemory => Ok(String::from_str(alloc, "out of memory")?),
+        SuiteRefusal::OutOfMemory => owned(rt, alloc, "out of memory"),
     }
 }
