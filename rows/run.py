@@ -220,7 +220,8 @@ def answer(case, folder):
             if end is None:
                 os.close(number)
         if "memory" in case.given:
-            resource.setrlimit(resource.RLIMIT_AS, (int(case.given["memory"]) << 20,) * 2)
+            # (a limit on the address space would also be one on the stack, and a stack that may not grow ends the program)
+            resource.setrlimit(resource.RLIMIT_DATA, (int(case.given["memory"]) << 20,) * 2)
 
     try:
         done = subprocess.run(
