@@ -21,7 +21,6 @@ impl<'m> Explainer<'m> {
     }
 
     /// The number of what the task of that name gives; one that isn't declared gives every tree.
-    #[tactic(auto, using(crate::proofs::Lengths::numbered))]
     pub(crate) fn given_by(&self, shapes: &mut Shapes, name: &str) -> Result<usize, OutOfMemory>
         ensures { IfOk result (λ number. number < length shapes.new) }
     {

@@ -6,9 +6,8 @@ use Rattle.asl_model.specs.Examples.{outside}
 use Rattle.asl_model.specs.Finding as finding
 use Rattle.asl_model.specs.Missing.{counterexample}
 use Rattle.asl_model.specs.Shape.{Shape}
-use Rattle.asl_numbered.specs.Expansion.{expansions, shape_at, Keeps}
-use Rattle.asl_numbered.specs.declared.node.Node.{Node}
-use Rattle.asl_numbered.proofs.Expansions.{as_many, kept_shape, keeps_longer}
+use Rattle.asl_numbered.specs.Expansion.{shape_at, Keeps}
+use Rattle.asl_numbered.specs.Laws.{keeps_longer, kept_shape}
 use Rattle.asl_state_edges.specs.View.{finding_fault_view}
 use Rattle.asl_check.specs.Faults.{shown_view, IsShownBelow, IsFaultBelow}
 use Rattle.asl_check.specs.Listing.{listed_view, rules_view, Adds, AreRulesBelow}
@@ -56,19 +55,19 @@ rule_below bound [] i d within below = absurd (omega (arith, within))
 rule_below bound (rule ∷ rules) zero d within below = below.0
 rule_below bound (rule ∷ rules) (suc i) d within below = rule_below bound rules i d (omega (arith, within)) below.1
 
-module _ (a b : List Node) (rules : List Listed) (i : ℕ) (rule : Listed) (is : rule ≡ get_or rules i rule) (keeps : Keeps (expansions a) (expansions b)) (within : i < length rules) (below : AreRulesBelow (length a) rules) where
+module _ (a b : List Shape) (rules : List Listed) (i : ℕ) (rule : Listed) (is : rule ≡ get_or rules i rule) (keeps : Keeps a b) (within : i < length rules) (below : AreRulesBelow (length a) rules) where
   here : IsFaultBelow (length a) rule.fault
   here = subst (λ (r : Listed). IsFaultBelow (length a) r.fault) (sym is) (rule_below (length a) rules i rule within below)
 
   -- its numbers are in the table
   pub rule_within : IsFaultBelow (length b) rule.fault
   rule_within =
-      let longer : length a ≤ length b = omega (arith, keeps_longer (expansions a) (expansions b) keeps, as_many a, as_many b) in
+      let longer : length a ≤ length b = omega (arith, keeps_longer a b keeps) in
       fault_wider (length a) (length b) rule.fault longer here
 
   -- it is seen as it was
-  pub rule_shown : listed_view (expansions b) rule ≡ listed_view (expansions a) rule
-  rule_shown = rule_kept (expansions a) (expansions b) rule keeps (subst (λ bound. IsFaultBelow bound rule.fault) (sym (as_many a)) here)
+  pub rule_shown : listed_view b rule ≡ listed_view a rule
+  rule_shown = rule_kept a b rule keeps (here)
 
 -- ---- whether there are any
 
@@ -105,14 +104,14 @@ adds_same table before after xs ys is a = subst (Adds table before after) is a
 
 -- ---- rules that are added to none
 
-module _ (nodes : List Node) (before after : List Listed) (all : List finding.Finding) (none : before ≡ []) (a : Adds (expansions nodes) before after all) where
+module _ (table : List Shape) (before after : List Listed) (all : List finding.Finding) (none : before ≡ []) (a : Adds table before after all) where
   whole : after ≡ a.added
   whole = a.whole ∙ ap (λ rules. rules ++ a.added) none
 
   -- they are those
-  pub added_seen : rules_view (expansions nodes) after ≡ all
-  added_seen = ap (rules_view (expansions nodes)) whole ∙ a.seen
+  pub added_seen : rules_view table after ≡ all
+  added_seen = ap (rules_view table) whole ∙ a.seen
 
   -- below the table's length
-  pub added_below : AreRulesBelow (length nodes) after
-  added_below = subst (AreRulesBelow (length nodes)) (sym whole) (subst (λ bound. AreRulesBelow bound a.added) (as_many nodes) a.below)
+  pub added_below : AreRulesBelow (length table) after
+  added_below = subst (AreRulesBelow (length table)) (sym whole) (a.below)

@@ -5,7 +5,7 @@ use Rattle.asl_model.specs.Certificate.{Declared, Certificate}
 use Rattle.asl_model.specs.Finding.{Breach, found_at}
 use Rattle.asl_model.specs.Numbering.{Table}
 use Rattle.asl_model.specs.Shape.{Shape}
-use Rattle.asl_numbered.proofs.Expansions.{keeps_same}
+use Rattle.asl_numbered.specs.Laws.{keeps_same}
 use Rattle.asl_check.specs.Listing.{Adds}
 use Rattle.asl_check.specs.Rules.{found_at_start, found_of_start, start_in}
 use Rattle.asl_check.specs.declared.listed.Listed.{Listed}

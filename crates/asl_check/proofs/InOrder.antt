@@ -4,11 +4,10 @@ use Rattle.std.specs.List.{AllByRecursion}
 use Rattle.std.specs.Map.{values_of}
 use Rattle.asl_model.specs.Certificate as model
 use Rattle.asl_model.specs.RecordShapes.{HoldsForCertificate, HoldsForTask}
-use Rattle.asl_model.specs.Shape.{IsOrdered, IsProperShape}
+use Rattle.asl_model.specs.Shape.{Shape, IsOrdered, IsProperShape}
 use Rattle.asl_model.proofs.RecordsBack.{both_certificate}
 use Rattle.asl_model.proofs.ShapeExample.{proper-ordered}
-use Rattle.asl_numbered.specs.Expansion.{expansions, shape_at}
-use Rattle.asl_numbered.specs.declared.node.Node.{Node}
+use Rattle.asl_numbered.specs.Expansion.{shape_at}
 use Rattle.asl_shape.specs.View.{view}
 use Rattle.asl_records.specs.View.{task_view, tasks_view}
 use Rattle.asl_records.specs.declared.records.TaskShapes.{TaskShapes}
@@ -18,10 +17,10 @@ use Rattle.asl_check.specs.declared.checker.Checker.{Checker}
 
 -- ---- what is certified
 
-pub certified : (nodes : List Node) (c : Checker) → ((n : ℕ) → IsProperShape (shape_at (expansions nodes) n)) → HoldsForCertificate IsOrdered (certificate_of (expansions nodes) c)
-certified nodes c proper =
-    let all : HoldsForCertificate IsProperShape (certificate_of (expansions nodes) c) = certificate_proper (record { shapes = nodes; output = c.output; states = c.states.now }) proper in
-    both_certificate IsProperShape IsProperShape IsOrdered (λ s h p. proper-ordered s h) (certificate_of (expansions nodes) c) all all
+pub certified : (table : List Shape) (c : Checker) → ((n : ℕ) → IsProperShape (shape_at table n)) → HoldsForCertificate IsOrdered (certificate_of table c)
+certified table c proper =
+    let all : HoldsForCertificate IsProperShape (certificate_of table c) = certificate_proper (record { shapes = table; output = c.output; states = c.states.now }) proper in
+    both_certificate IsProperShape IsProperShape IsOrdered (λ s h p. proper-ordered s h) (certificate_of table c) all all
 
 -- ---- what is declared of tasks
 

@@ -5,7 +5,7 @@ use Rattle.std.proofs.lemmas.List.{append-nil}
 use Rattle.asl_model.specs.Finding.{Breach, Finding, found_at}
 use Rattle.asl_model.specs.Shape.{Shape}
 use Rattle.asl_numbered.specs.Expansion.{Keeps}
-use Rattle.asl_numbered.proofs.Expansions.{keeps_same}
+use Rattle.asl_numbered.specs.Laws.{keeps_same}
 use Rattle.asl_check.specs.Listing.{Adds}
 use Rattle.asl_check.specs.Rules.{Row, found_by, found_in, found_from}
 use Rattle.asl_check.specs.declared.listed.Listed.{Listed}

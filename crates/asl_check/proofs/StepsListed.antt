@@ -4,7 +4,7 @@ use Rattle.std.proofs.lemmas.List.{drop_all, map-append}
 use Rattle.asl_model.specs.Edges.{DestinationShapes, breaches_along, breaches_at}
 use Rattle.asl_model.specs.Finding.{Breach, Finding, found_at}
 use Rattle.asl_model.specs.Shape.{Shape}
-use Rattle.asl_numbered.proofs.Expansions.{keeps_same}
+use Rattle.asl_numbered.specs.Laws.{keeps_same}
 use Rattle.asl_state_edges.specs.View.{step_view, steps_of, AreStepsBelow, IsStepBelow}
 use Rattle.asl_state_edges.specs.declared.found.Step.{Step}
 use Rattle.asl_check.specs.Listing.{Adds}

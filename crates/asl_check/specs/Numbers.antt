@@ -2,8 +2,7 @@
 use Rattle.std.specs.Prelude.{◌≡◌, ◌<◌, List, length}
 use Rattle.asl_model.specs.Certificate.{Certificate}
 use Rattle.asl_model.specs.Shape.{Shape, Never}
-use Rattle.asl_numbered.specs.Expansion.{expansions, shape_at}
-use Rattle.asl_numbered.specs.declared.node.Node.{Node}
+use Rattle.asl_numbered.specs.Expansion.{shape_at}
 use Rattle.asl_records.specs.Numbered.{AreEntriesBelow, numbered_entries}
 use Rattle.asl_check.specs.declared.checker.Checker.{Checker}
 
@@ -15,8 +14,8 @@ certificate_of table checker = record {
 }
 
 -- the checker's numbers are those of the table, in which that of no tree stands
-pub record IsWithin (nodes : List Node) (checker : Checker) : Type 0 where
-  pub output : checker.output < length nodes
-  pub states : AreEntriesBelow (length nodes) checker.states.now.entries
-  pub never : checker.never < length nodes
-  pub no_tree : shape_at (expansions nodes) checker.never ≡ Never
+pub record IsWithin (table : List Shape) (checker : Checker) : Type 0 where
+  pub output : checker.output < length table
+  pub states : AreEntriesBelow (length table) checker.states.now.entries
+  pub never : checker.never < length table
+  pub no_tree : shape_at table checker.never ≡ Never

@@ -5,7 +5,6 @@ use Rattle.asl_model.specs.Edges as model
 use Rattle.asl_model.specs.Finding.{PathMayBeMissing}
 use Rattle.asl_model.specs.Shape.{Shape}
 use Rattle.asl_numbered.specs.Expansion.{shape_at}
-use Rattle.asl_numbered.specs.declared.node.Node.{Node}
 use Rattle.asl_states.specs.Table.{table_view}
 use Rattle.asl_state_edges.specs.View.{finding_fault_view}
 use Rattle.asl_state_edges.specs.declared.found.Edge.{Edge}
@@ -25,11 +24,11 @@ standing_view table s = record {
 }
 
 -- the numbers are those of the table
-pub record AreStanding (nodes : List Node) (s : Standing) : Type 0 where
-  pub checker : IsWithin nodes s.checker.now
-  pub output : s.output < length nodes
-  pub end : IfSome s.end (λ n. n < length nodes)
-  pub takes : s.takes < length nodes
+pub record AreStanding (table : List Shape) (s : Standing) : Type 0 where
+  pub checker : IsWithin table s.checker.now
+  pub output : s.output < length table
+  pub end : IfSome s.end (λ n. n < length table)
+  pub takes : s.takes < length table
 
 -- what is wrong where what flows at an edge doesn't fit isn't that a path may name nothing
 abbrev pub IsEdgeApart : Edge → Type 0

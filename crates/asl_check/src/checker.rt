@@ -6,7 +6,7 @@ ghost use Rattle.asl_model.specs.Machine as machines;
 ghost use Rattle.asl_model.specs.RecordShapes.{HoldsForCertificate, HoldsForDeclared};
 ghost use Rattle.asl_model.specs.Shape as model;
 ghost use Rattle.asl_model.specs.Verdict.{IsRight};
-ghost use Rattle.asl_numbered.specs.Expansion.{expansions, Keeps};
+ghost use Rattle.asl_numbered.specs.Expansion.{Keeps};
 ghost use Rattle.asl_states.specs.Table.{Shows, table_view};
 ghost use Rattle.asl_records.specs.Numbered.{AreWithin, numbered_view};
 ghost use Rattle.asl_records.specs.View.{declared_view, certificate_view};
@@ -82,7 +82,7 @@ pub fn check_numbered(
         (numbered_view certificate.old)) (verdict_view verdict)) }
     ensures same { numbered_view certificate.new ≡ numbered_view certificate.old }
     ensures within { AreWithin certificate.new }
-    ensures keeps { Keeps (expansions certificate.old.shapes) (expansions certificate.new.shapes) }
+    ensures keeps { Keeps certificate.old.shapes certificate.new.shapes }
     ensures output { certificate.new.output ≡ certificate.old.output }
     ensures states { certificate.new.states ≡ certificate.old.states }
 {
@@ -117,7 +117,7 @@ pub fn find_all(
         → All (λ f. IsSome f.path ↔ TellsMissing f.finding) all.items) }
     ensures same { numbered_view certificate.new ≡ numbered_view certificate.old }
     ensures within { AreWithin certificate.new }
-    ensures keeps { Keeps (expansions certificate.old.shapes) (expansions certificate.new.shapes) }
+    ensures keeps { Keeps certificate.old.shapes certificate.new.shapes }
     ensures output { certificate.new.output ≡ certificate.old.output }
     ensures states { certificate.new.states ≡ certificate.old.states }
 {
@@ -139,11 +139,11 @@ impl Checker<'_> {
         requires within { IsWithin shapes.old self.now }
         ensures listed { IfOk result (λ all. findings_of all.items
             ≡ listed (table_view self.now.machine.now) (declared_view self.now.declared.now)
-            (certificate_of (expansions shapes.old) self.now)) }
+            (certificate_of shapes.old self.now)) }
         ensures located { IfOk result (λ all. All IsLocated all.items) }
         ensures exactly { IfOk result (λ all. (m : machines.Scope) → Shows self.now.machine.now m
             → All (λ f. IsSome f.path ↔ TellsMissing f.finding) all.items) }
-        ensures keeps { Keeps (expansions shapes.old) (expansions shapes.new) }
+        ensures keeps { Keeps shapes.old shapes.new }
     {
         findings_are_exactly_the_broken_rules();
         let rules = self.list_all(shapes)?;
@@ -155,11 +155,11 @@ impl Checker<'_> {
         requires within { IsWithin shapes.old self.now }
         ensures verdict { IfOk result (λ verdict. (m : machines.Scope)
             → Shows self.now.machine.now m → IsRight m (declared_view self.now.declared.now)
-            (certificate_of (expansions shapes.old) self.now) (verdict_view verdict)) }
+            (certificate_of shapes.old self.now) (verdict_view verdict)) }
         ensures first { IfOk result (λ verdict. TellsFirst
             (listed (table_view self.now.machine.now) (declared_view self.now.declared.now)
-            (certificate_of (expansions shapes.old) self.now)) (verdict_view verdict)) }
-        ensures keeps { Keeps (expansions shapes.old) (expansions shapes.new) }
+            (certificate_of shapes.old self.now)) (verdict_view verdict)) }
+        ensures keeps { Keeps shapes.old shapes.new }
     {
         findings_are_exactly_the_broken_rules();
         let rules = self.list_all(shapes)?;
@@ -177,7 +177,7 @@ impl Checker<'_> {
     fn are_in_order(&self, shapes: &Shapes)
         ensures declared { HoldsForDeclared model.IsOrdered (declared_view self.now.declared.now) }
         ensures certified { HoldsForCertificate model.IsOrdered
-            (certificate_of (expansions shapes.now) self.now) }
+            (certificate_of shapes.now self.now) }
     {
         shapes.are_proper();
         names_in_order(self.declared);

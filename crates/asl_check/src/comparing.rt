@@ -3,7 +3,7 @@
 ghost use Rattle.std.specs.Prelude.{◌≡◌, ◌≢◌, ◌<◌, length, IfOk, IfSome, option_map, option_to_list};
 ghost use Rattle.asl_model.specs.Finding.{PathMayBeMissing, breach_unless_sub};
 ghost use Rattle.asl_model.specs.ShapeOrder as order;
-ghost use Rattle.asl_numbered.specs.Expansion.{expansions, shape_at};
+ghost use Rattle.asl_numbered.specs.Expansion.{shape_at};
 ghost use Rattle.asl_state_edges.specs.View.{finding_fault_view};
 ghost use Rattle.asl_check.specs.Faults.{fault_view, IsFaultBelow};
 
@@ -25,10 +25,9 @@ pub(crate) fn broken_unless_sub<'m>(
     requires expected { IfSome expected (λ n. n < length shapes.old) }
     requires apart { finding_fault_view fault ≢ PathMayBeMissing }
     ensures told { IfOk result
-        (λ told. option_to_list (option_map (fault_view (expansions shapes.old)) told)
-        ≡ breach_unless_sub field.now (finding_fault_view fault)
-        (shape_at (expansions shapes.old) number)
-        (option_map (shape_at (expansions shapes.old)) expected)) }
+        (λ told. option_to_list (option_map (fault_view shapes.old) told)
+        ≡ breach_unless_sub field.now (finding_fault_view fault) (shape_at shapes.old number)
+        (option_map (shape_at shapes.old) expected)) }
     ensures below { IfOk result (λ told. IfSome told (IsFaultBelow (length shapes.old))) }
     ensures unchanged { shapes.new ≡ shapes.old }
 {
@@ -54,8 +53,7 @@ fn is_inside(shapes: &mut Shapes, inner: usize, outer: usize) -> Result<bool, Ou
     requires inner { inner < length shapes.old }
     requires outer { outer < length shapes.old }
     ensures inside { IfOk result
-        (λ b. b ≡ order.sub (shape_at (expansions shapes.old) inner)
-        (shape_at (expansions shapes.old) outer)) }
+        (λ b. b ≡ order.sub (shape_at shapes.old inner) (shape_at shapes.old outer)) }
     ensures unchanged { shapes.new ≡ shapes.old }
 {
     Ok(shapes.sub(inner, outer)?.unwrap())

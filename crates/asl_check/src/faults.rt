@@ -4,7 +4,7 @@ ghost use Rattle.std.specs.Prelude.{◌≡◌, ℕ, IfOk, IfSome, length, List, 
 ghost use Rattle.asl_state_edges.specs.View.{broken_view, finding_fault_view, IsBrokenBelow};
 ghost use Rattle.asl_model.specs.Finding as model;
 ghost use Rattle.asl_model.specs.Shape.{Shape};
-ghost use Rattle.asl_numbered.specs.Expansion.{expansions, Keeps};
+ghost use Rattle.asl_numbered.specs.Expansion.{Keeps};
 ghost use Rattle.asl_tree.specs.View.{view as tree_view};
 ghost use Rattle.asl_check.specs.Faults.{fault_view, shown_view, IsFaultBelow, IsShownBelow, NamesNothing};
 ghost use Rattle.asl_check.specs.Noting.{noted_breach};
@@ -94,11 +94,10 @@ pub(crate) fn with_example(
     fault: Fault<'_>,
 ) -> Result<Noted, OutOfMemory>
     requires below { IsFaultBelow (length shapes.old) fault }
-    ensures seen { IfOk result
-        (λ noted. noted_breach noted ≡ fault_view (expansions shapes.old) fault.entry) }
+    ensures seen { IfOk result (λ noted. noted_breach noted ≡ fault_view shapes.old fault.entry) }
     ensures nothing { IfOk result
         (λ noted. NamesNothing fault.entry.shown (option_map tree_view noted.example)) }
-    ensures keeps { Keeps (expansions shapes.old) (expansions shapes.new) }
+    ensures keeps { Keeps shapes.old shapes.new }
 {
     let example = example_of(alloc, shapes, fault.shown)?;
     Ok(Noted {
@@ -116,11 +115,10 @@ fn example_of(
 ) -> Result<Option<Tree>, OutOfMemory>
     requires below { IsShownBelow (length shapes.old) shown }
     ensures seen { IfOk result
-        (λ example. option_map tree_view example
-        ≡ shown_view (expansions shapes.old) shown.entry) }
+        (λ example. option_map tree_view example ≡ shown_view shapes.old shown.entry) }
     ensures nothing { IfOk result
         (λ example. NamesNothing shown.entry (option_map tree_view example)) }
-    ensures keeps { Keeps (expansions shapes.old) (expansions shapes.new) }
+    ensures keeps { Keeps shapes.old shapes.new }
 {
     match shown {
         Shown::Nothing => Ok(None),

@@ -4,7 +4,7 @@ ghost use Rattle.std.specs.Prelude.{◌≡◌, List, IfOk, IfSome, OnOk, codes, 
 ghost use Rattle.std.specs.BTreeMap.{keys};
 ghost use Rattle.asl_model.specs.Finding.{StartInput, breach_unless_sub};
 ghost use Rattle.asl_model.specs.Shape as model;
-ghost use Rattle.asl_numbered.specs.Expansion.{expansions, Keeps};
+ghost use Rattle.asl_numbered.specs.Expansion.{Keeps};
 ghost use Rattle.asl_shape.specs.View.{view};
 ghost use Rattle.asl_states.specs.Table.{table_view};
 ghost use Rattle.asl_records.specs.View.{declared_view};
@@ -27,11 +27,11 @@ impl<'c> Checker<'c> {
     /// All broken rules, in the order of these lists. What shows them stands there by number: no tree is made.
     pub(crate) fn list_all(&self, shapes: &mut Shapes) -> Result<Vec<Listed<'c>>, OutOfMemory>
         requires within { IsWithin shapes.old self.now }
-        ensures listed { IfOk result (λ rules. rules_view (expansions shapes.new) rules.items
+        ensures listed { IfOk result (λ rules. rules_view shapes.new rules.items
             ≡ listed (table_view self.now.machine.now) (declared_view self.now.declared.now)
-            (certificate_of (expansions shapes.old) self.now)) }
+            (certificate_of shapes.old self.now)) }
         ensures below { IfOk result (λ rules. AreRulesBelow (length shapes.new) rules.items) }
-        ensures keeps { Keeps (expansions shapes.old) (expansions shapes.new) }
+        ensures keeps { Keeps shapes.old shapes.new }
     {
         let mut rules = Vec::new(self.alloc);
         self.list_entries(&mut rules)?;
@@ -101,11 +101,10 @@ impl<'c> Checker<'c> {
     ) -> Result<(), OutOfMemory>
         requires within { IsWithin shapes.old self.now }
         ensures adds { OnOk result
-            (Adds (expansions shapes.new) rules.old.items rules.new.items
-            (found_at_start (table_view self.now.machine.now)
-            (declared_view self.now.declared.now)
-            (certificate_of (expansions shapes.old) self.now))) }
-        ensures keeps { Keeps (expansions shapes.old) (expansions shapes.new) }
+            (Adds shapes.new rules.old.items rules.new.items
+            (found_at_start (table_view self.now.machine.now) (declared_view self.now.declared.now)
+            (certificate_of shapes.old self.now))) }
+        ensures keeps { Keeps shapes.old shapes.new }
     {
         let Some(start) = self.start() else {
             return Ok(());
@@ -122,12 +121,12 @@ impl<'c> Checker<'c> {
     ) -> Result<Option<Fault<'m>>, OutOfMemory>
         requires within { IsWithin shapes.old self.now }
         ensures told { IfOk result
-            (λ told. option_to_list (option_map (fault_view (expansions shapes.new)) told)
+            (λ told. option_to_list (option_map (fault_view shapes.new) told)
             ≡ breach_unless_sub (codes "StartAt") StartInput (view self.now.declared.now.input)
             (inputs_in (table_view self.now.machine.now)
-            (certificate_of (expansions shapes.old) self.now) start.now)) }
+            (certificate_of shapes.old self.now) start.now)) }
         ensures below { IfOk result (λ told. IfSome told (IsFaultBelow (length shapes.new))) }
-        ensures keeps { Keeps (expansions shapes.old) (expansions shapes.new) }
+        ensures keeps { Keeps shapes.old shapes.new }
     {
         let input = shapes.add(&self.declared.input)?;
         let expected = self.input_to_compare(start);
@@ -142,11 +141,11 @@ impl<'c> Checker<'c> {
     ) -> Result<(), OutOfMemory>
         requires within { IsWithin shapes.old self.now }
         ensures adds { OnOk result
-            (Adds (expansions shapes.new) rules.old.items rules.new.items
+            (Adds shapes.new rules.old.items rules.new.items
             (found_in_all (flow_rules (table_view self.now.machine.now)
             (declared_view self.now.declared.now)
-            (certificate_of (expansions shapes.old) self.now)) (table_view self.now.machine.now))) }
-        ensures keeps { Keeps (expansions shapes.old) (expansions shapes.new) }
+            (certificate_of shapes.old self.now)) (table_view self.now.machine.now))) }
+        ensures keeps { Keeps shapes.old shapes.new }
     {
         for number in 0..self.machine.states() {
             if let Some(row) = row_of(self.machine, number) {

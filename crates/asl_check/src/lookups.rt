@@ -2,8 +2,8 @@
 
 ghost use Rattle.std.specs.Prelude.{◌≡◌, ◌<◌, List, length, IfSome, option_map};
 ghost use Rattle.asl_model.specs.Certificate.{certified, child_end};
-ghost use Rattle.asl_numbered.specs.Expansion.{expansions, shape_at};
-ghost use Rattle.asl_numbered.specs.declared.node.Node.{Node};
+ghost use Rattle.asl_model.specs.Shape.{Shape};
+ghost use Rattle.asl_numbered.specs.Expansion.{shape_at};
 ghost use Rattle.asl_states.specs.Machine.{kind_view, scope_view};
 ghost use Rattle.asl_states.specs.Table.{table_view};
 ghost use Rattle.asl_check.specs.Checking.{row_view};
@@ -56,12 +56,11 @@ impl<'c> Checker<'c> {
     /// The number of the input that is compared with what goes on to a name: of a state's certified one, if any; what
     /// is no state takes no tree.
     pub(crate) fn input_to_compare(&self, name: &str) -> Option<usize>
-        ensures within { (nodes : List Node) → IsWithin nodes self.now
-            → IfSome result (λ n. n < length nodes) }
-        ensures seen { (nodes : List Node) → IsWithin nodes self.now
-            → option_map (shape_at (expansions nodes)) result
-            ≡ inputs_in (table_view self.now.machine.now)
-            (certificate_of (expansions nodes) self.now) name.now }
+        ensures within { (table : List Shape) → IsWithin table self.now
+            → IfSome result (λ n. n < length table) }
+        ensures seen { (table : List Shape) → IsWithin table self.now
+            → option_map (shape_at table) result ≡ inputs_in (table_view self.now.machine.now)
+            (certificate_of table self.now) name.now }
     {
         match self.states.get(name) {
             Some(entry) => Some(entry.input),
@@ -72,12 +71,11 @@ impl<'c> Checker<'c> {
 
     /// The number of the shape certified for the end of a scope, if any is.
     pub(crate) fn end_of(&self, scope: &Scope) -> Option<usize>
-        ensures within { (nodes : List Node) → IsWithin nodes self.now
-            → IfSome result (λ n. n < length nodes) }
-        ensures seen { (nodes : List Node)
-            → option_map (shape_at (expansions nodes)) result
-            ≡ end_in (table_view self.now.machine.now)
-            (certificate_of (expansions nodes) self.now) (scope_view scope.now) }
+        ensures within { (table : List Shape) → IsWithin table self.now
+            → IfSome result (λ n. n < length table) }
+        ensures seen { (table : List Shape)
+            → option_map (shape_at table) result ≡ end_in (table_view self.now.machine.now)
+            (certificate_of table self.now) (scope_view scope.now) }
     {
         let Some((number, child)) = scope.owner else {
             return Some(self.output);
@@ -89,12 +87,11 @@ impl<'c> Checker<'c> {
 
     /// The number of the shape certified for the end of the child of that number, of a state of that name.
     fn end_of_child(&self, name: &str, kind: &Kind, child: usize) -> Option<usize>
-        ensures within { (nodes : List Node) → IsWithin nodes self.now
-            → IfSome result (λ n. n < length nodes) }
-        ensures seen { (nodes : List Node)
-            → option_map (shape_at (expansions nodes)) result
-            ≡ child_end (kind_view kind.now)
-            (certified (certificate_of (expansions nodes) self.now) name.now) child }
+        ensures within { (table : List Shape) → IsWithin table self.now
+            → IfSome result (λ n. n < length table) }
+        ensures seen { (table : List Shape)
+            → option_map (shape_at table) result ≡ child_end (kind_view kind.now)
+            (certified (certificate_of table self.now) name.now) child }
     {
         let entry = self.states.get(name)?;
         match kind {

@@ -2,7 +2,7 @@
 
 ghost use Rattle.std.specs.Prelude.{◌≡◌, [], ◌∷◌, ◌++◌, IfOk, OnOk, length};
 ghost use Rattle.asl_model.specs.Verdict.{AreInNameOrder};
-ghost use Rattle.asl_numbered.specs.Expansion.{expansions, Keeps};
+ghost use Rattle.asl_numbered.specs.Expansion.{Keeps};
 ghost use Rattle.asl_check.specs.Faults.{IsFaultBelow};
 ghost use Rattle.asl_check.specs.Listing.{listed_view, rules_view, AreRulesBelow};
 ghost use Rattle.asl_check.specs.Noting.{AreNoted, notes_view};
@@ -37,9 +37,8 @@ pub(crate) fn note_first(
 ) -> Result<BrokenRules, OutOfMemory>
     requires below { AreRulesBelow (length shapes.old) rules.now }
     ensures noted { IfOk result
-        (λ notes. AreNoted (rules_view (expansions shapes.old) rules.now)
-        (notes_view notes.entries)) }
-    ensures keeps { Keeps (expansions shapes.old) (expansions shapes.new) }
+        (λ notes. AreNoted (rules_view shapes.old rules.now) (notes_view notes.entries)) }
+    ensures keeps { Keeps shapes.old shapes.new }
 {
     let mut notes = BTreeMap::new(alloc);
     for rule in rules {
@@ -57,10 +56,9 @@ fn note(
 ) -> Result<(), OutOfMemory>
     requires below { IsFaultBelow (length shapes.old) rule.now.fault }
     ensures noted { OnOk result
-        (AreNoted
-        (notes_view notes.old.entries ++ listed_view (expansions shapes.old) rule.now ∷ [])
+        (AreNoted (notes_view notes.old.entries ++ listed_view shapes.old rule.now ∷ [])
         (notes_view notes.new.entries)) }
-    ensures keeps { Keeps (expansions shapes.old) (expansions shapes.new) }
+    ensures keeps { Keeps shapes.old shapes.new }
 {
     if notes.contains_key(rule.name) {
         return Ok(());

@@ -3,8 +3,8 @@
 ghost use Rattle.std.specs.Prelude.{◌≡◌, ◌<◌, List, length, IfOk, IfSome, OnOk, option_map, option_to_list};
 ghost use Rattle.asl_model.specs.Edges.{breaches_along, breaches_at, stands_at};
 ghost use Rattle.asl_model.specs.Finding.{found_at};
-ghost use Rattle.asl_numbered.specs.Expansion.{expansions, shape_at};
-ghost use Rattle.asl_numbered.specs.declared.node.Node.{Node};
+ghost use Rattle.asl_model.specs.Shape.{Shape};
+ghost use Rattle.asl_numbered.specs.Expansion.{shape_at};
 ghost use Rattle.asl_state_edges.specs.View.{destination_view, edge_view, step_view, steps_of, AreStepsBelow, IsStepBelow};
 ghost use Rattle.asl_check.specs.Faults.{fault_view, IsFaultBelow};
 ghost use Rattle.asl_check.specs.Listing.{Adds};
@@ -42,9 +42,9 @@ impl Standing<'_, '_> {
         requires below { AreStepsBelow (length shapes.old) steps.now }
         requires apart { AreStepsApart steps.now }
         ensures adds { OnOk result
-            (Adds (expansions shapes.old) rules.old.items rules.new.items
-            (found_at name.now (breaches_along (standing_view (expansions shapes.old) self.now)
-            (steps_of (expansions shapes.old) steps.now)))) }
+            (Adds shapes.old rules.old.items rules.new.items
+            (found_at name.now (breaches_along (standing_view shapes.old self.now)
+            (steps_of shapes.old steps.now)))) }
         ensures unchanged { shapes.new ≡ shapes.old }
     {
         for step in steps {
@@ -64,9 +64,8 @@ impl Standing<'_, '_> {
         requires below { IsStepBelow (length shapes.old) step.now }
         requires apart { IsStepApart step.now }
         ensures told { IfOk result
-            (λ told. option_to_list (option_map (fault_view (expansions shapes.old)) told)
-            ≡ breaches_at (standing_view (expansions shapes.old) self.now)
-            (step_view (expansions shapes.old) step.now)) }
+            (λ told. option_to_list (option_map (fault_view shapes.old) told)
+            ≡ breaches_at (standing_view shapes.old self.now) (step_view shapes.old step.now)) }
         ensures below { IfOk result (λ told. IfSome told (IsFaultBelow (length shapes.old))) }
         ensures unchanged { shapes.new ≡ shapes.old }
     {
@@ -86,9 +85,8 @@ impl Standing<'_, '_> {
         requires flowing { edge.flowing < length shapes.old }
         requires apart { IsEdgeApart edge }
         ensures told { IfOk result
-            (λ told. option_to_list (option_map (fault_view (expansions shapes.old)) told)
-            ≡ breaches_at (standing_view (expansions shapes.old) self.now)
-            (edge_view (expansions shapes.old) edge.entry)) }
+            (λ told. option_to_list (option_map (fault_view shapes.old) told)
+            ≡ breaches_at (standing_view shapes.old self.now) (edge_view shapes.old edge.entry)) }
         ensures below { IfOk result (λ told. IfSome told (IsFaultBelow (length shapes.old))) }
         ensures unchanged { shapes.new ≡ shapes.old }
     {
@@ -98,11 +96,10 @@ impl Standing<'_, '_> {
 
     /// The number of what stands at a destination, if anything does.
     fn number_at(&self, destination: Destination) -> Option<usize>
-        ensures within { (nodes : List Node) → AreStanding nodes self.now
-            → IfSome result (λ n. n < length nodes) }
-        ensures seen { (nodes : List Node) → AreStanding nodes self.now
-            → option_map (shape_at (expansions nodes)) result
-            ≡ stands_at (standing_view (expansions nodes) self.now)
+        ensures within { (table : List Shape) → AreStanding table self.now
+            → IfSome result (λ n. n < length table) }
+        ensures seen { (table : List Shape) → AreStanding table self.now
+            → option_map (shape_at table) result ≡ stands_at (standing_view table self.now)
             (destination_view destination.entry) }
     {
         match destination {

@@ -4,7 +4,7 @@ ghost use Rattle.std.specs.Prelude.{◌≡◌, List, length, OnOk, option_map};
 ghost use Rattle.asl_model.specs.Finding as finding;
 ghost use Rattle.asl_model.specs.Finding.{found_at};
 ghost use Rattle.asl_model.specs.Shape as model;
-ghost use Rattle.asl_numbered.specs.Expansion.{expansions, Keeps};
+ghost use Rattle.asl_numbered.specs.Expansion.{Keeps};
 ghost use Rattle.asl_states.specs.Machine.{kind_view, scope_view, settings_view};
 ghost use Rattle.asl_states.specs.Table.{table_view};
 ghost use Rattle.asl_records.specs.Numbered.{AreNumbersBelow, numbers_view};
@@ -57,11 +57,11 @@ impl Checker<'_> {
     ) -> Result<(), OutOfMemory>
         requires within { IsWithin shapes.old self.now }
         ensures adds { OnOk result
-            (Adds (expansions shapes.new) rules.old.items rules.new.items
+            (Adds shapes.new rules.old.items rules.new.items
             (found_at row.now.name.now (flow_rules (table_view self.now.machine.now)
-            (declared_view self.now.declared.now) (certificate_of (expansions shapes.old) self.now)
+            (declared_view self.now.declared.now) (certificate_of shapes.old self.now)
             (row_view row.now)))) }
-        ensures keeps { Keeps (expansions shapes.old) (expansions shapes.new) }
+        ensures keeps { Keeps shapes.old shapes.new }
     {
         match self.states.get(row.name) {
             Some(entry) => self.list_walk(shapes, rules, row, entry),
@@ -81,16 +81,15 @@ impl Checker<'_> {
         requires within { IsWithin shapes.old self.now }
         requires entry { AreNumbersBelow (length shapes.old) entry.now }
         ensures adds { OnOk result
-            (Adds (expansions shapes.new) rules.old.items rules.new.items
+            (Adds shapes.new rules.old.items rules.new.items
             (found_at row.now.name.now (finding.flow_breaches
             (finding.surrounded_by (declared_view self.now.declared.now)
-            (inputs_in (table_view self.now.machine.now)
-            (certificate_of (expansions shapes.old) self.now))
+            (inputs_in (table_view self.now.machine.now) (certificate_of shapes.old self.now))
             (end_in (table_view self.now.machine.now)
-            (certificate_of (expansions shapes.old) self.now) (scope_view row.now.scope.now))
-            row.now.name.now (numbers_view (expansions shapes.old) entry.now))
+            (certificate_of shapes.old self.now) (scope_view row.now.scope.now))
+            row.now.name.now (numbers_view shapes.old entry.now))
             (settings_view row.now.state.now.settings) (kind_view row.now.state.now.kind)))) }
-        ensures keeps { Keeps (expansions shapes.old) (expansions shapes.new) }
+        ensures keeps { Keeps shapes.old shapes.new }
     {
         walk_breaks_what_flow_breaks();
         let task = number_task(shapes, self.declared, row.name)?;

@@ -1,7 +1,7 @@
 // What tasks take and give, by number.
 
 ghost use Rattle.std.specs.Prelude.{IfOk};
-ghost use Rattle.asl_numbered.specs.Expansion.{expansions, Keeps};
+ghost use Rattle.asl_numbered.specs.Expansion.{Keeps};
 ghost use Rattle.asl_records.specs.View.{declared_view};
 ghost use Rattle.asl_check.specs.Tasks.{AreOfTask};
 
@@ -24,7 +24,7 @@ pub(crate) fn number_task(
     name: &str,
 ) -> Result<TaskNumbers, OutOfMemory>
     ensures numbered { IfOk result (AreOfTask shapes.new (declared_view declared.now) name.now) }
-    ensures keeps { Keeps (expansions shapes.old) (expansions shapes.new) }
+    ensures keeps { Keeps shapes.old shapes.new }
 {
     match declared.task(name) {
         Some(task) => {

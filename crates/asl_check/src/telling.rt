@@ -2,7 +2,7 @@
 
 ghost use Rattle.std.specs.Prelude.{◌≡◌, IfOk, length};
 ghost use Rattle.std.specs.List.{All};
-ghost use Rattle.asl_numbered.specs.Expansion.{expansions, Keeps};
+ghost use Rattle.asl_numbered.specs.Expansion.{Keeps};
 ghost use Rattle.asl_check.specs.Faults.{IsFaultBelow, IsPathOf};
 ghost use Rattle.asl_check.specs.Listing.{listed_view, rules_view, AreRulesBelow};
 ghost use Rattle.asl_check.specs.View.{finding_view, findings_of, IsLocated};
@@ -23,10 +23,9 @@ pub(crate) fn tell_each(
     rules: &[Listed],
 ) -> Result<Vec<Located>, OutOfMemory>
     requires below { AreRulesBelow (length shapes.old) rules.now }
-    ensures told { IfOk result (λ all. findings_of all.items
-        ≡ rules_view (expansions shapes.old) rules.now) }
+    ensures told { IfOk result (λ all. findings_of all.items ≡ rules_view shapes.old rules.now) }
     ensures located { IfOk result (λ all. All IsLocated all.items) }
-    ensures keeps { Keeps (expansions shapes.old) (expansions shapes.new) }
+    ensures keeps { Keeps shapes.old shapes.new }
 {
     let mut findings = Vec::new(alloc);
     for rule in rules {
@@ -39,10 +38,9 @@ pub(crate) fn tell_each(
 /// The finding that tells a rule, and the path that it tells, if it is one that may name nothing.
 fn tell(alloc: Global, shapes: &mut Shapes, rule: &Listed) -> Result<Located, OutOfMemory>
     requires below { IsFaultBelow (length shapes.old) rule.now.fault }
-    ensures told { IfOk result
-        (λ f. finding_view f.finding ≡ listed_view (expansions shapes.old) rule.now) }
+    ensures told { IfOk result (λ f. finding_view f.finding ≡ listed_view shapes.old rule.now) }
     ensures located { IfOk result IsLocated }
-    ensures keeps { Keeps (expansions shapes.old) (expansions shapes.new) }
+    ensures keeps { Keeps shapes.old shapes.new }
 {
     let noted = with_example(alloc, shapes, rule.fault)?;
     let path = missing_path(alloc, rule.fault)?;

@@ -11,9 +11,8 @@ use Rattle.asl_draft_laws.specs.Drafts as model
 use Rattle.asl_draft_laws.specs.Drafts.{Row, taken_at}
 use Rattle.asl_draft_laws.specs.Resting.{IsPassedBy, IsTakenIn, Memory, Rests}
 use Rattle.asl_draft_laws.proofs.PassedOver.{rests-kept, rests-known}
-use Rattle.asl_numbered.specs.declared.node.Node.{Node}
-use Rattle.asl_numbered.specs.Expansion.{expansions, shape_at, Keeps}
-use Rattle.asl_numbered.proofs.Expansions.{as_many, kept_shape, keeps_longer}
+use Rattle.asl_numbered.specs.Expansion.{shape_at, Keeps}
+use Rattle.asl_numbered.specs.Laws.{keeps_longer, kept_shape}
 use Rattle.asl_drafts.specs.Calm.{IsCalm, has_shape, memory_of, target_meant}
 use Rattle.asl_drafts.specs.Drafted.{draft_view, room, target_view}
 use Rattle.asl_drafts.specs.Entries.{Makes}
@@ -53,46 +52,46 @@ remembered a b p into n place s keeps h =
 
 -- ---- a state that doesn't wait
 
-module _ (table : Table) (declared : Declared) (row : Row) (a b : List Node) (p : Predecessors) (keeps : Keeps (expansions a) (expansions b)) where
+module _ (table : Table) (declared : Declared) (row : Row) (a b : List Shape) (p : Predecessors) (keeps : Keeps a b) where
   abbrev before : Memory
-  before = memory_of (expansions a) p
+  before = memory_of a p
 
   abbrev after : Memory
-  after = memory_of (expansions b) p
+  after = memory_of b p
 
   -- where nothing changes
   rests-same : (d e : model.Draft) → e ≡ d → Rests table declared row before d → Rests table declared row after e
-  rests-same d e same rest = subst (Rests table declared row after) (sym same) (rests-known table declared row before after d (λ into place s h. remembered (expansions a) (expansions b) p into row.number place s keeps h) rest)
+  rests-same d e same rest = subst (Rests table declared row after) (sym same) (rests-known table declared row before after d (λ into place s h. remembered a b p into row.number place s keeps h) rest)
 
   -- where the shape changes, and nothing that flowed there would change it again
   pub taken-again : (t : Target) (s : Shape) (d e : model.Draft) → e ≡ taken_at (Some (target_view t)) s d
-      → ((place f : ℕ) → flowed p t (record { state = row.number; place = place }) ≡ Some f → f < length a → taken_at (Some (target_view t)) (shape_at (expansions b) f) e ≡ e)
+      → ((place f : ℕ) → flowed p t (record { state = row.number; place = place }) ≡ Some f → f < length a → taken_at (Some (target_view t)) (shape_at b f) e ≡ e)
       → IsTakenIn row.number before (target_view t) (taken_at (Some (target_view t)) s d)
   taken-again t s d e made again = λ place r h.
-      let there = recalled (expansions a) (flowed p (target_meant (target_view t)) (record { state = row.number; place = place })) r h in
+      let there = recalled a (flowed p (target_meant (target_view t)) (record { state = row.number; place = place })) r h in
       let is : flowed p t (record { state = row.number; place = place }) ≡ Some there.0 = ap (λ u. flowed p u (record { state = row.number; place = place })) (sym (meant-same t)) ∙ there.1 in
-      let stays = again place there.0 is (omega (arith, there.2, as_many a)) in
-      let shape : shape_at (expansions b) there.0 ≡ r = kept_shape (expansions a) (expansions b) there.0 keeps there.2 ∙ there.3 in
+      let stays = again place there.0 is there.2 in
+      let shape : shape_at b there.0 ≡ r = kept_shape a b there.0 keeps there.2 ∙ there.3 in
       subst (λ x. taken_at (Some (target_view t)) r x ≡ x) made (ap (λ y. taken_at (Some (target_view t)) y e) (sym shape) ∙ stays)
 
   rests-changed : (t : Target) (s : Shape) (d e : model.Draft) → e ≡ taken_at (Some (target_view t)) s d → IsPassedBy row.number (target_view t)
-      → ((place f : ℕ) → flowed p t (record { state = row.number; place = place }) ≡ Some f → f < length a → taken_at (Some (target_view t)) (shape_at (expansions b) f) e ≡ e)
+      → ((place f : ℕ) → flowed p t (record { state = row.number; place = place }) ≡ Some f → f < length a → taken_at (Some (target_view t)) (shape_at b f) e ≡ e)
       → Rests table declared row before d → Rests table declared row after e
   rests-changed t s d e made passed again rest =
       rests-same (taken_at (Some (target_view t)) s d) e made (rests-kept table declared row before (target_view t) s d passed (taken-again t s d e made again) rest)
 
 -- ---- after something has flowed in
 
-module _ (table : Table) (declared : Declared) (row : Row) (one two : Walker) (t : Target) (s : Shape) (keeps : Keeps (expansions one.draft.store) (expansions two.draft.store)) (same : two.predecessors ≡ one.predecessors) (stays : StaysWaiting one.waiting two.waiting) (within : row.number < length two.waiting.waits.items) where
+module _ (table : Table) (declared : Declared) (row : Row) (one two : Walker) (t : Target) (s : Shape) (keeps : Keeps one.draft.store two.draft.store) (same : two.predecessors ≡ one.predecessors) (stays : StaysWaiting one.waiting two.waiting) (within : row.number < length two.waiting.waits.items) where
   -- the row's state is at rest in the second draft
   abbrev RestsNow : Type 0
-  RestsNow = Rests table declared row (memory_of (expansions two.draft.store) two.predecessors) (draft_view two.draft)
+  RestsNow = Rests table declared row (memory_of two.draft.store two.predecessors) (draft_view two.draft)
 
   abbrev RestedThen : Type 0
-  RestedThen = Rests table declared row (memory_of (expansions one.draft.store) one.predecessors) (draft_view one.draft)
+  RestedThen = Rests table declared row (memory_of one.draft.store one.predecessors) (draft_view one.draft)
 
-  moved : Rests table declared row (memory_of (expansions two.draft.store) one.predecessors) (draft_view two.draft) → RestsNow
-  moved rest = subst (λ p. Rests table declared row (memory_of (expansions two.draft.store) p) (draft_view two.draft)) (sym same) rest
+  moved : Rests table declared row (memory_of two.draft.store one.predecessors) (draft_view two.draft) → RestsNow
+  moved rest = subst (λ p. Rests table declared row (memory_of two.draft.store p) (draft_view two.draft)) (sym same) rest
 
   pub calm-by : (changed : Bool) → Makes room (taken_at (Some (target_view t)) s) (draft_view one.draft) changed (draft_view two.draft) → (changed ≡ true → HaveWoken (length one.draft.store) two.draft two.predecessors t two.waiting.waits.items) → IsCalm table declared row one → IsCalm table declared row two
   calm-by changed makes woken was = record { calm = by was.calm }
@@ -106,10 +105,10 @@ module _ (table : Table) (declared : Declared) (row : Row) (one two : Walker) (t
           reads wake true is_w (inl passed) = inl is_w
           reads wake false is_w (inl passed) = inr (moved (rests-changed table declared row one.draft.store two.draft.store one.predecessors keeps t s (draft_view one.draft) (draft_view two.draft) m.made passed again rest))
             where
-              again : (place f : ℕ) → flowed one.predecessors t (record { state = row.number; place = place }) ≡ Some f → f < length one.draft.store → taken_at (Some (target_view t)) (shape_at (expansions two.draft.store) f) (draft_view two.draft) ≡ draft_view two.draft
+              again : (place f : ℕ) → flowed one.predecessors t (record { state = row.number; place = place }) ≡ Some f → f < length one.draft.store → taken_at (Some (target_view t)) (shape_at two.draft.store f) (draft_view two.draft) ≡ draft_view two.draft
               again place f flow below = pick (wake.again (record { state = row.number; place = place }) f (subst (λ p. flowed p t (record { state = row.number; place = place }) ≡ Some f) (sym same) flow) within below)
                 where
-                  pick : (waits_in two.waiting.waits.items row.number ≡ true) ⊎ (taken_at (Some (target_view t)) (shape_at (expansions two.draft.store) f) (draft_view two.draft) ≡ draft_view two.draft) → taken_at (Some (target_view t)) (shape_at (expansions two.draft.store) f) (draft_view two.draft) ≡ draft_view two.draft
+                  pick : (waits_in two.waiting.waits.items row.number ≡ true) ⊎ (taken_at (Some (target_view t)) (shape_at two.draft.store f) (draft_view two.draft) ≡ draft_view two.draft) → taken_at (Some (target_view t)) (shape_at two.draft.store f) (draft_view two.draft) ≡ draft_view two.draft
                   pick (inl waits) = absurd (false≢true (sym is_w ∙ waits))
                   pick (inr stay) = stay
 

@@ -14,8 +14,7 @@ use Rattle.asl_model.specs.Shape.{Shape, Never}
 use Rattle.asl_model.specs.ShapeSpelling.{are_distinct}
 use Rattle.asl_model.proofs.RunOptions.{none_some, some_inj}
 use Rattle.asl_draft_laws.specs.Drafts.{DraftEntry, Growth, certificate_of, entry_of, entry_with, first_entry}
-use Rattle.asl_numbered.specs.declared.node.Node.{Node}
-use Rattle.asl_numbered.specs.Expansion.{expansions, shape_at}
+use Rattle.asl_numbered.specs.Expansion.{shape_at}
 use Rattle.asl_state_edges.specs.Entry.{entry_view as shapes_view, IsEntryBelow}
 use Rattle.asl_state_edges.specs.declared.found.Entry.{Entry}
 use Rattle.asl_records.specs.Numbered.{numbered_entries, numbered_view, numbers_view, AreNumbersBelow, AreWithin}
@@ -62,20 +61,20 @@ entry-shallow kind entry h = record {
     item true = item-shallow (map (λ (g : Growth). g.shape) entry.ends) h.ends
     item false = tt
 
-growths-shallow : (nodes : List Node) (gs : List Growing) → All (IsGrown nodes) gs → AllByRecursion IsShallow (map (λ (g : Growth). g.shape) (map (growth_view (expansions nodes)) gs))
-growths-shallow nodes [] h = tt
-growths-shallow nodes (g ∷ gs) h = ((All-head (IsGrown nodes) g gs h).shallow, growths-shallow nodes gs (All-tail (IsGrown nodes) g gs h))
+growths-shallow : (table : List Shape) (gs : List Growing) → All (IsGrown table) gs → AllByRecursion IsShallow (map (λ (g : Growth). g.shape) (map (growth_view table) gs))
+growths-shallow table [] h = tt
+growths-shallow table (g ∷ gs) h = ((All-head (IsGrown table) g gs h).shallow, growths-shallow table gs (All-tail (IsGrown table) g gs h))
 
-entries-shallow : (nodes : List Node) (entries : List code.DraftEntry) (n : ℕ) → All (IsEntryGrown nodes) entries → AreEntryShallow (unwrap_or (slice_get (entries_view (expansions nodes) entries) n) (first_entry 0))
-entries-shallow nodes [] n h = record { input = never-shallow; output = never-shallow; ends = tt }
-entries-shallow nodes (e ∷ es) zero h =
-    let is = All-head (IsEntryGrown nodes) e es h in
-    record { input = is.input.shallow; output = is.output.shallow; ends = growths-shallow nodes e.ends.items is.ends }
-entries-shallow nodes (e ∷ es) (suc n) h = entries-shallow nodes es n (All-tail (IsEntryGrown nodes) e es h)
+entries-shallow : (table : List Shape) (entries : List code.DraftEntry) (n : ℕ) → All (IsEntryGrown table) entries → AreEntryShallow (unwrap_or (slice_get (entries_view table entries) n) (first_entry 0))
+entries-shallow table [] n h = record { input = never-shallow; output = never-shallow; ends = tt }
+entries-shallow table (e ∷ es) zero h =
+    let is = All-head (IsEntryGrown table) e es h in
+    record { input = is.input.shallow; output = is.output.shallow; ends = growths-shallow table e.ends.items is.ends }
+entries-shallow table (e ∷ es) (suc n) h = entries-shallow table es n (All-tail (IsEntryGrown table) e es h)
 
 -- ---- an entry
 
-is-certified : (draft : Draft) (number : ℕ) (kind : Kind) (entry : Entry) (made : StateNumbers) → shapes_view (expansions draft.store) entry ≡ shapes_of (draft_view draft) number kind → IsEntryBelow (length draft.store) entry → AreNumbersOf entry made → IsCertified draft number kind made
+is-certified : (draft : Draft) (number : ℕ) (kind : Kind) (entry : Entry) (made : StateNumbers) → shapes_view draft.store entry ≡ shapes_of (draft_view draft) number kind → IsEntryBelow (length draft.store) entry → AreNumbersOf entry made → IsCertified draft number kind made
 is-certified draft number kind entry made shown below of = record {
   shown = whole;
   fit = record {
@@ -89,14 +88,14 @@ is-certified draft number kind entry made shown below of = record {
   };
 }
   where
-    same : numbers_view (expansions draft.store) made ≡ shapes_view (expansions draft.store) entry
+    same : numbers_view draft.store made ≡ shapes_view draft.store entry
     same = rw (of.input, of.output, of.branches, of.item) refl
 
-    whole : numbers_view (expansions draft.store) made ≡ shapes_of (draft_view draft) number kind
+    whole : numbers_view draft.store made ≡ shapes_of (draft_view draft) number kind
     whole = same ∙ shown
 
 -- where it is made
-pub all-certified : {E : Type 0} (r : Result StateNumbers E) (draft : Draft) (number : ℕ) (kind : Kind) (entry : Entry) → shapes_view (expansions draft.store) entry ≡ shapes_of (draft_view draft) number kind → IsEntryBelow (length draft.store) entry → IfOk r (AreNumbersOf entry) → IfOk r (IsCertified draft number kind)
+pub all-certified : {E : Type 0} (r : Result StateNumbers E) (draft : Draft) (number : ℕ) (kind : Kind) (entry : Entry) → shapes_view draft.store entry ≡ shapes_of (draft_view draft) number kind → IsEntryBelow (length draft.store) entry → IfOk r (AreNumbersOf entry) → IfOk r (IsCertified draft number kind)
 all-certified (Err e) draft number kind entry shown below of = tt
 all-certified (Ok made) draft number kind entry shown below of = is-certified draft number kind entry made shown below of
 
@@ -122,7 +121,7 @@ module _ (table : Table) (draft : Draft) where
   -- a state whose name is missing
   pub certified-nameless : (number : ℕ) (es : List Certified) (name : Option (Bor (List ℕ))) → number < length table.states → option_map (λ (n : Bor (List ℕ)). n.now) name ≡ slice_get table.names number → ((k : Bor (List ℕ)) → name ≡ Some k → ⊥) → AreCertified table draft (suc number) es → AreCertified table draft number es
   certified-nameless number es name within named nameless are = record {
-    rows = placed-at string_cmp string_bytes (numbers_view (expansions draft.store)) (entry_of (draft_view draft)) (λ x y. refl) table number es es within (λ none. refl) (λ n state some at. none_some (sym (ap (option_map (λ (m : Bor (List ℕ)). m.now)) (missing name refl)) ∙ (named ∙ some))) are.rows;
+    rows = placed-at string_cmp string_bytes (numbers_view draft.store) (entry_of (draft_view draft)) (λ x y. refl) table number es es within (λ none. refl) (λ n state some at. none_some (sym (ap (option_map (λ (m : Bor (List ℕ)). m.now)) (missing name refl)) ∙ (named ∙ some))) are.rows;
     fit = are.fit;
   }
     where
@@ -133,29 +132,29 @@ module _ (table : Table) (draft : Draft) where
   -- one more
   pub certified-more : (number : ℕ) (es new : List Certified) (name : Option (Bor (List ℕ))) (n : Bor (List ℕ)) (state : State) (k : String Global) (made : StateNumbers) → number < length table.states → option_map (λ (m : Bor (List ℕ)). m.now) name ≡ slice_get table.names number → name ≡ Some n → Some state ≡ slice_get table.states number → string_bytes k ≡ n.now → IsCertified draft number (kind_of state) made → new ≡ insert_entry string_cmp es k made → AreCertified table draft (suc number) es → AreCertified table draft number new
   certified-more number es new name n state k made within named is found key certified put are = record {
-    rows = placed-at string_cmp string_bytes (numbers_view (expansions draft.store)) (entry_of (draft_view draft)) (λ x y. refl) table number es new within (λ none. none_some (sym none ∙ there)) (λ m other some at. one m other (some_inj (sym there ∙ some)) (some_inj (found ∙ at))) are.rows;
+    rows = placed-at string_cmp string_bytes (numbers_view draft.store) (entry_of (draft_view draft)) (λ x y. refl) table number es new within (λ none. none_some (sym none ∙ there)) (λ m other some at. one m other (some_inj (sym there ∙ some)) (some_inj (found ∙ at))) are.rows;
     fit = subst (AllByRecursion (λ (entry : Certified). IsFit draft.store entry.1)) (sym put) (put-fit (λ (entry : Certified). IsFit draft.store entry.1) es k made (λ m. certified.fit) are.fit);
   }
     where
       there : slice_get table.names number ≡ Some n.now
       there = sym named ∙ ap (option_map (λ (m : Bor (List ℕ)). m.now)) is
 
-      one : (m : List ℕ) (other : State) → n.now ≡ m → state ≡ other → IsPut string_cmp string_bytes (numbers_view (expansions draft.store)) (entry_of (draft_view draft)) es new (record { number = number; name = m; state = other })
+      one : (m : List ℕ) (other : State) → n.now ≡ m → state ≡ other → IsPut string_cmp string_bytes (numbers_view draft.store) (entry_of (draft_view draft)) es new (record { number = number; name = m; state = other })
       one m other same alike = record { name = k; value = made; put = put; named = key ∙ same; same = certified.shown ∙ ap (λ s. shapes_of (draft_view draft) number (kind_of s)) alike }
 
 -- ---- the certificate
 
-all-below : (nodes : List Node) (es : List Certified) → AllByRecursion (λ (entry : Certified). IsFit nodes entry.1) es → AllByRecursion (λ (entry : Certified). AreNumbersBelow (length nodes) entry.1) es
-all-below nodes [] h = tt
-all-below nodes (e ∷ es) h = (h.0.below, all-below nodes es h.1)
+all-below : (table : List Shape) (es : List Certified) → AllByRecursion (λ (entry : Certified). IsFit table entry.1) es → AllByRecursion (λ (entry : Certified). AreNumbersBelow (length table) entry.1) es
+all-below table [] h = tt
+all-below table (e ∷ es) h = (h.0.below, all-below table es h.1)
 
-all-shallow : (nodes : List Node) (es : List Certified) → AllByRecursion (λ (entry : Certified). IsFit nodes entry.1) es → AllByRecursion (λ (entry : List ℕ × StateShapes). HoldsForState IsShallow entry.1) (numbered_entries (expansions nodes) es)
-all-shallow nodes [] h = tt
-all-shallow nodes (e ∷ es) h = (h.0.shallow, all-shallow nodes es h.1)
+all-shallow : (table : List Shape) (es : List Certified) → AllByRecursion (λ (entry : Certified). IsFit table entry.1) es → AllByRecursion (λ (entry : List ℕ × StateShapes). HoldsForState IsShallow entry.1) (numbered_entries table es)
+all-shallow table [] h = tt
+all-shallow table (e ∷ es) h = (h.0.shallow, all-shallow table es h.1)
 
 module _ (table : Table) (draft : Draft) (certificate : NumberedCertificate) (shapes : certificate.shapes ≡ draft.store) (output : certificate.output ≡ draft.output.number) (are : AreCertified table draft 0 certificate.states.entries) where
   pub certificate-same : are_distinct table.names ≡ true → numbered_view certificate ≡ certificate_of table (draft_view draft)
-  certificate-same distinct = rw (shapes, output) (ap (λ states. (let made : Certificate = record { output = shape_at (expansions draft.store) draft.output.number; states = states } in made)) (are.rows.placed distinct))
+  certificate-same distinct = rw (shapes, output) (ap (λ states. (let made : Certificate = record { output = shape_at draft.store draft.output.number; states = states } in made)) (are.rows.placed distinct))
 
   pub certificate-within : AreWithin certificate
   certificate-within = record {

@@ -9,15 +9,14 @@ use Rattle.asl_model.specs.Edges.{walk}
 use Rattle.asl_model.specs.Machine.{Kind, Settings, State, kind_of}
 use Rattle.asl_state_edges.specs.Entry.{entry_view as shapes_view}
 use Rattle.asl_state_edges.specs.declared.found.Entry.{Entry}
-use Rattle.asl_numbered.specs.Joins.{Shows as ShowsNumber}
 use Rattle.asl_model.specs.Shape.{Shape, Never}
 use Rattle.asl_model.proofs.ReadingSteps.{then_from}
 use Rattle.asl_model.proofs.RunOptions.{none_some, some_inj}
 use Rattle.asl_draft_laws.specs.Drafts as model
 use Rattle.asl_draft_laws.specs.Drafts.{DraftEntry, Growth, children_in, first_entry, taken_at, taken_in, ungrown, with_element, with_entry}
 use Rattle.asl_draft_laws.proofs.DraftShapes.{element-stays}
-use Rattle.asl_numbered.specs.declared.node.Node.{Node}
-use Rattle.asl_numbered.specs.Expansion.{expansions, shape_at, AreBelow, Keeps}
+use Rattle.asl_numbered.specs.Expansion.{shape_at, AreBelow, Keeps, Shows as ShowsNumber}
+use Rattle.asl_numbered.specs.Laws.{kept_shape}
 use Rattle.asl_drafts.specs.Drafted.{draft_view, entry_at, growing_at, growing_of, numbers_at, numbers_or, part_of, room, shapes_of, target_view}
 use Rattle.asl_drafts.specs.Entries.{AreAllBelow, AreNumbersIn, Makes, ends_view, entries_room, entries_view, entry_view, filled_with, growing_in, growths_in, made_part, numbers_in, numbers_seen}
 use Rattle.asl_drafts.specs.Growing.{AreGrown, IsEntryGrown, IsGrown, Takes, growth_view}
@@ -29,7 +28,6 @@ use Rattle.asl_drafts.specs.declared.entries.EntryNumbers.{EntryNumbers}
 use Rattle.asl_drafts.specs.declared.entries.Part.{Part}
 use Rattle.asl_drafts.specs.declared.entries.Part.TheVariants as part
 use Rattle.asl_drafts.specs.declared.growing.Growing.{Growing}
-use Rattle.asl_state_edges.proofs.Kept.{among, shown}
 use Rattle.asl_drafts.proofs.EntryViews.{all-entries-same, growth-kept, parts, parts-same}
 
 -- ---- what is made of a draft
@@ -92,14 +90,14 @@ part-stays table make part.Input entry stays = ap (λ g. parts g (growth_view ta
 part-stays table make part.Output entry stays = ap (λ g. parts (growth_view table entry.input) g (ends_view table entry.ends)) (stays entry.output refl)
 part-stays table make (part.End child) entry stays = ap (parts (growth_view table entry.input) (growth_view table entry.output)) (stays-at (growth_view table) make entry.ends.items child stays)
 
-place-stays : (draft : Draft) (make : Growth → Growth) (o : Option (ℕ × Part)) → ((g : Growing) → growing_at draft o ≡ Some g → make (growth_view (expansions draft.store) g) ≡ growth_view (expansions draft.store) g) → made_at o make (draft_view draft) ≡ draft_view draft
-place-stays draft make None stays = ap (λ g. draft_of g (entries_view (expansions draft.store) draft.entries.items)) (stays draft.output refl)
+place-stays : (draft : Draft) (make : Growth → Growth) (o : Option (ℕ × Part)) → ((g : Growing) → growing_at draft o ≡ Some g → make (growth_view draft.store g) ≡ growth_view draft.store g) → made_at o make (draft_view draft) ≡ draft_view draft
+place-stays draft make None stays = ap (λ g. draft_of g (entries_view draft.store draft.entries.items)) (stays draft.output refl)
 place-stays draft make (Some place) stays =
-    ap (draft_of (growth_view (expansions draft.store) draft.output)) (stays-at (entry_view (expansions draft.store)) (made_part place.1 make) draft.entries.items place.0 (λ entry at.
-    part-stays (expansions draft.store) make place.1 entry (λ g there. stays g (ap (option_and_then (growing_in place.1)) at ∙ there))))
+    ap (draft_of (growth_view draft.store draft.output)) (stays-at (entry_view draft.store) (made_part place.1 make) draft.entries.items place.0 (λ entry at.
+    part-stays draft.store make place.1 entry (λ g there. stays g (ap (option_and_then (growing_in place.1)) at ∙ there))))
 
 -- the draft stays where what flows in leaves the shape as it is, if that is there
-pub draft-stays : (draft : Draft) (t : Target) (s : Shape) → ((g : Growing) → growing_of draft t ≡ Some g → taken_in s (growth_view (expansions draft.store) g) ≡ growth_view (expansions draft.store) g) → taken_at (Some (target_view t)) s (draft_view draft) ≡ draft_view draft
+pub draft-stays : (draft : Draft) (t : Target) (s : Shape) → ((g : Growing) → growing_of draft t ≡ Some g → taken_in s (growth_view draft.store g) ≡ growth_view draft.store g) → taken_at (Some (target_view t)) s (draft_view draft) ≡ draft_view draft
 draft-stays draft t s stays = taken-by t s (draft_view draft) ∙ place-stays draft (taken_in s) (part_of t) stays
 
 -- and where the draft stays, so does the shape
@@ -108,10 +106,10 @@ part-unchanged table make part.Input entry g at stays = subst (λ x. make (growt
 part-unchanged table make part.Output entry g at stays = subst (λ x. make (growth_view table x) ≡ growth_view table x) (some_inj at) (ap (λ (e : DraftEntry). e.output) stays)
 part-unchanged table make (part.End child) entry g at stays = element-stays make child (ends_view table entry.ends) (growth_view table g) (ap (λ (e : DraftEntry). e.ends) stays) (slice_get-map (growth_view table) entry.ends.items child ∙ ap (option_map (growth_view table)) at)
 
-place-unchanged : (draft : Draft) (make : Growth → Growth) (o : Option (ℕ × Part)) (g : Growing) → growing_at draft o ≡ Some g → made_at o make (draft_view draft) ≡ draft_view draft → make (growth_view (expansions draft.store) g) ≡ growth_view (expansions draft.store) g
-place-unchanged draft make None g at stays = subst (λ x. make (growth_view (expansions draft.store) x) ≡ growth_view (expansions draft.store) x) (some_inj at) (ap (λ (d : model.Draft). d.output) stays)
+place-unchanged : (draft : Draft) (make : Growth → Growth) (o : Option (ℕ × Part)) (g : Growing) → growing_at draft o ≡ Some g → made_at o make (draft_view draft) ≡ draft_view draft → make (growth_view draft.store g) ≡ growth_view draft.store g
+place-unchanged draft make None g at stays = subst (λ x. make (growth_view draft.store x) ≡ growth_view draft.store x) (some_inj at) (ap (λ (d : model.Draft). d.output) stays)
 place-unchanged draft make (Some place) g at stays =
-    let table = expansions draft.store in
+    let table = draft.store in
     let entry = then_from (growing_in place.1) (slice_get draft.entries.items place.0) g at in
     part-unchanged table make place.1 entry.0 g entry.2
     (element-stays (made_part place.1 make) place.0 (entries_view table draft.entries.items) (entry_view table entry.0) (ap (λ (d : model.Draft). d.entries) stays) (slice_get-map (entry_view table) draft.entries.items place.0 ∙ ap (option_map (entry_view table)) entry.1))
@@ -121,27 +119,27 @@ pub none-stays : (draft : Draft) (t : Target) (s : Shape) (o : Option Growing) �
 none-stays draft t s o is none = draft-stays draft t s (λ g there. none_some (sym none ∙ (is ∙ there)))
 
 -- where it wouldn't change
-pub unchanged-stays : {E : Type 0} (W : Type 0) (draft : Draft) (t : Target) (s : Shape) (g after : Growing) (new : List Node) (o : Option Growing) (r : Result Bool E) → o ≡ growing_of draft t → o ≡ Some g → IfOk r (λ changed. Takes (growth_view (expansions draft.store) g) s changed (growth_view (expansions new) after)) → IfOk r (λ changed. changed ≡ false → W → taken_at (Some (target_view t)) s (draft_view draft) ≡ draft_view draft)
+pub unchanged-stays : {E : Type 0} (W : Type 0) (draft : Draft) (t : Target) (s : Shape) (g after : Growing) (new : List Shape) (o : Option Growing) (r : Result Bool E) → o ≡ growing_of draft t → o ≡ Some g → IfOk r (λ changed. Takes (growth_view draft.store g) s changed (growth_view new after)) → IfOk r (λ changed. changed ≡ false → W → taken_at (Some (target_view t)) s (draft_view draft) ≡ draft_view draft)
 unchanged-stays W draft t s g after new o (Ok true) is there takes = λ e w. absurd (cc)
 unchanged-stays W draft t s g after new o (Ok false) is there takes = λ e w. draft-stays draft t s (λ other at.
     let same : g ≡ other = some_inj (sym there ∙ (is ∙ at)) in
-    subst (λ x. taken_in s (growth_view (expansions draft.store) x) ≡ growth_view (expansions draft.store) x) same (sym takes.grown ∙ takes.told))
+    subst (λ x. taken_in s (growth_view draft.store x) ≡ growth_view draft.store x) same (sym takes.grown ∙ takes.told))
 unchanged-stays W draft t s g after new o (Err e) is there takes = tt
 
 -- where it would
-pub changed-changes : {E : Type 0} (W : Type 0) (draft : Draft) (t : Target) (s : Shape) (g after : Growing) (new : List Node) (o : Option Growing) (r : Result Bool E) → W → o ≡ growing_of draft t → o ≡ Some g → IfOk r (λ changed. Takes (growth_view (expansions draft.store) g) s changed (growth_view (expansions new) after)) → IfOk r (λ changed. changed ≡ true → W × (taken_at (Some (target_view t)) s (draft_view draft) ≢ draft_view draft))
+pub changed-changes : {E : Type 0} (W : Type 0) (draft : Draft) (t : Target) (s : Shape) (g after : Growing) (new : List Shape) (o : Option Growing) (r : Result Bool E) → W → o ≡ growing_of draft t → o ≡ Some g → IfOk r (λ changed. Takes (growth_view draft.store g) s changed (growth_view new after)) → IfOk r (λ changed. changed ≡ true → W × (taken_at (Some (target_view t)) s (draft_view draft) ≢ draft_view draft))
 changed-changes W draft t s g after new o (Ok true) w is there takes = λ e. (w, other)
   where
     other : taken_at (Some (target_view t)) s (draft_view draft) ≢ draft_view draft
     other same =
         let stays = place-unchanged draft (taken_in s) (part_of t) g (sym is ∙ there) (sym (taken-by t s (draft_view draft)) ∙ same) in
-        let fewer : (growth_view (expansions new) after).changes_left ≡ g.changes_left = ap (λ (x : Growth). x.changes_left) (takes.grown ∙ stays) in
+        let fewer : (growth_view new after).changes_left ≡ g.changes_left = ap (λ (x : Growth). x.changes_left) (takes.grown ∙ stays) in
         omega (arith, takes.told, fewer)
 changed-changes W draft t s g after new o (Ok false) w is there takes = λ e. absurd (cc)
 changed-changes W draft t s g after new o (Err e) w is there takes = tt
 
 -- a draft in a table that has grown
-pub draft-same : (a b : List Node) (output : Growing) (entries : List code.DraftEntry) → Keeps (expansions a) (expansions b) → IsGrown a output → AreGrown a entries → draft_of (growth_view (expansions b) output) (entries_view (expansions b) entries) ≡ draft_of (growth_view (expansions a) output) (entries_view (expansions a) entries)
+pub draft-same : (a b : List Shape) (output : Growing) (entries : List code.DraftEntry) → Keeps a b → IsGrown a output → AreGrown a entries → draft_of (growth_view b output) (entries_view b entries) ≡ draft_of (growth_view a output) (entries_view a entries)
 draft-same a b output entries keeps is are = ap₂ draft_of (growth-kept a b output keeps is) (all-entries-same a b entries keeps are)
 
 -- ---- a new draft
@@ -168,64 +166,64 @@ entries-new table never (state ∷ states) (e ∷ es) is same =
     ap₂ (λ g gs. g ∷ gs) (entry-new table never state e is here) (entries-new table never states es is behind)
 
 -- each of them is grown
-entry-grown : (nodes : List Node) (never : Growing) (state : State) (e : code.DraftEntry) → IsGrown nodes never → IsFilled never state e → IsEntryGrown nodes e
-entry-grown nodes never state e is same = record {
-  input = subst (IsGrown nodes) (sym (ap (λ p. p.0) same)) is;
-  output = subst (IsGrown nodes) (sym (ap (λ p. p.1) same)) is;
-  ends = subst (All (IsGrown nodes)) (sym (ap (λ p. p.2) same)) (All-replicate (IsGrown nodes) (children_in (kind_of state)) never is);
+entry-grown : (table : List Shape) (never : Growing) (state : State) (e : code.DraftEntry) → IsGrown table never → IsFilled never state e → IsEntryGrown table e
+entry-grown table never state e is same = record {
+  input = subst (IsGrown table) (sym (ap (λ p. p.0) same)) is;
+  output = subst (IsGrown table) (sym (ap (λ p. p.1) same)) is;
+  ends = subst (All (IsGrown table)) (sym (ap (λ p. p.2) same)) (All-replicate (IsGrown table) (children_in (kind_of state)) never is);
 }
 
-pub are-new : (nodes : List Node) (never : Growing) (states : List State) (entries : List code.DraftEntry) → IsGrown nodes never → map growths_in entries ≡ map (λ (state : State). filled_with never (children_in (kind_of state))) states → All (IsEntryGrown nodes) entries
-are-new nodes never [] [] is same = All-nil (IsEntryGrown nodes)
-are-new nodes never [] (e ∷ es) is same = absurd (cc)
-are-new nodes never (state ∷ states) [] is same = absurd (cc)
-are-new nodes never (state ∷ states) (e ∷ es) is same =
+pub are-new : (table : List Shape) (never : Growing) (states : List State) (entries : List code.DraftEntry) → IsGrown table never → map growths_in entries ≡ map (λ (state : State). filled_with never (children_in (kind_of state))) states → All (IsEntryGrown table) entries
+are-new table never [] [] is same = All-nil (IsEntryGrown table)
+are-new table never [] (e ∷ es) is same = absurd (cc)
+are-new table never (state ∷ states) [] is same = absurd (cc)
+are-new table never (state ∷ states) (e ∷ es) is same =
     let here : IsFilled never state e = cc in
     let behind : map growths_in es ≡ map (λ (st : State). filled_with never (children_in (kind_of st))) states = cc in
-    All-cons (IsEntryGrown nodes) e es (entry-grown nodes never state e is here) (are-new nodes never states es is behind)
+    All-cons (IsEntryGrown table) e es (entry-grown table never state e is here) (are-new table never states es is behind)
 
-pub never-new : (nodes : List Node) (g : Growing) (never : ℕ) → ShowsNumber (expansions nodes) Never never → g ≡ record { number = never; changes_left = 33 } → growth_view (expansions nodes) g ≡ ungrown
-never-new nodes g never shows new = ap (growth_view (expansions nodes)) new ∙ ap (λ (s : Shape). let growth : Growth = record { shape = s; changes_left = 33 } in growth) shows.same
+pub never-new : (table : List Shape) (g : Growing) (never : ℕ) → ShowsNumber table Never never → g ≡ record { number = never; changes_left = 33 } → growth_view table g ≡ ungrown
+never-new table g never shows new = ap (growth_view table) new ∙ ap (λ (s : Shape). let growth : Growth = record { shape = s; changes_left = 33 } in growth) shows.same
 
 -- ---- the numbers of a state's shapes
 
-growths-below : (nodes : List Node) (gs : List Growing) → All (IsGrown nodes) gs → AreBelow (length nodes) (map (λ (g : Growing). g.number) gs)
-growths-below nodes [] h = tt
-growths-below nodes (g ∷ gs) h = ((All-head (IsGrown nodes) g gs h).within, growths-below nodes gs (All-tail (IsGrown nodes) g gs h))
+growths-below : (table : List Shape) (gs : List Growing) → All (IsGrown table) gs → AreBelow (length table) (map (λ (g : Growing). g.number) gs)
+growths-below table [] h = tt
+growths-below table (g ∷ gs) h = ((All-head (IsGrown table) g gs h).within, growths-below table gs (All-tail (IsGrown table) g gs h))
 
 growths-shown : (table : List Shape) (gs : List Growing) → map (shape_at table) (map (λ (g : Growing). g.number) gs) ≡ map (λ (g : Growth). g.shape) (map (growth_view table) gs)
 growths-shown table [] = refl
 growths-shown table (g ∷ gs) = ap (λ ss. shape_at table g.number ∷ ss) (growths-shown table gs)
 
-module _ (nodes : List Node) (entry : code.DraftEntry) (numbers : EntryNumbers) (seen : numbers_seen numbers ≡ numbers_in entry) where
-  numbers-shown : AreNumbersIn (expansions nodes) (entry_view (expansions nodes) entry) numbers
+module _ (table : List Shape) (entry : code.DraftEntry) (numbers : EntryNumbers) (seen : numbers_seen numbers ≡ numbers_in entry) where
+  numbers-shown : AreNumbersIn table (entry_view table entry) numbers
   numbers-shown = record {
-    input = ap (λ p. shape_at (expansions nodes) p.0) seen;
-    output = ap (λ p. shape_at (expansions nodes) p.1) seen;
-    ends = ap (λ p. map (shape_at (expansions nodes)) p.2) seen ∙ growths-shown (expansions nodes) entry.ends.items;
+    input = ap (λ p. shape_at table p.0) seen;
+    output = ap (λ p. shape_at table p.1) seen;
+    ends = ap (λ p. map (shape_at table) p.2) seen ∙ growths-shown table entry.ends.items;
   }
 
-  numbers-within : IsEntryGrown nodes entry → AreAllBelow (length nodes) numbers
+  numbers-within : IsEntryGrown table entry → AreAllBelow (length table) numbers
   numbers-within is = record {
-    input = subst (λ p. p.0 < length nodes) (sym seen) is.input.within;
-    output = subst (λ p. p.1 < length nodes) (sym seen) is.output.within;
-    ends = subst (λ p. AreBelow (length nodes) p.2) (sym seen) (growths-below nodes entry.ends.items is.ends);
+    input = subst (λ p. p.0 < length table) (sym seen) is.input.within;
+    output = subst (λ p. p.1 < length table) (sym seen) is.output.within;
+    ends = subst (λ p. AreBelow (length table) p.2) (sym seen) (growths-below table entry.ends.items is.ends);
   }
 
 -- of a state, whether it has an entry or not
-module _ (draft : Draft) (never : ℕ) (shows : ShowsNumber (expansions draft.store) Never never) (numbers : EntryNumbers) where
-  shown-among : (entries : List code.DraftEntry) (n : ℕ) → numbers_seen numbers ≡ numbers_or never (slice_get entries n) → AreNumbersIn (expansions draft.store) (unwrap_or (slice_get (entries_view (expansions draft.store) entries) n) (first_entry 0)) numbers
+module _ (draft : Draft) (never : ℕ) (shows : ShowsNumber draft.store Never never) (numbers : EntryNumbers) where
+  shown-among : (entries : List code.DraftEntry) (n : ℕ) → numbers_seen numbers ≡ numbers_or never (slice_get entries n) → AreNumbersIn draft.store (unwrap_or (slice_get (entries_view draft.store entries) n) (first_entry 0)) numbers
   shown-among [] n seen = record {
-    input = ap (λ p. shape_at (expansions draft.store) p.0) seen ∙ shows.same;
-    output = ap (λ p. shape_at (expansions draft.store) p.1) seen ∙ shows.same;
-    ends = ap (λ p. map (shape_at (expansions draft.store)) p.2) seen;
+    input = ap (λ p. shape_at draft.store p.0) seen ∙ shows.same;
+    output = ap (λ p. shape_at draft.store p.1) seen ∙ shows.same;
+    ends = ap (λ p. map (shape_at draft.store) p.2) seen;
   }
   shown-among (e ∷ es) zero seen = numbers-shown draft.store e numbers seen
   shown-among (e ∷ es) (suc n) seen = shown-among es n seen
 
   below-among : (entries : List code.DraftEntry) (n : ℕ) → All (IsEntryGrown draft.store) entries → numbers_seen numbers ≡ numbers_or never (slice_get entries n) → AreAllBelow (length draft.store) numbers
   below-among [] n are seen =
-      let within = among draft.store never shows.within in
+      let within = shows.within in
       record {
         input = subst (λ p. p.0 < length draft.store) (sym seen) within;
         output = subst (λ p. p.1 < length draft.store) (sym seen) within;
@@ -234,14 +232,14 @@ module _ (draft : Draft) (never : ℕ) (shows : ShowsNumber (expansions draft.st
   below-among (e ∷ es) zero are seen = numbers-within draft.store e numbers seen (All-head (IsEntryGrown draft.store) e es are)
   below-among (e ∷ es) (suc n) are seen = below-among es n (All-tail (IsEntryGrown draft.store) e es are) seen
 
-  pub state-shown : (n : ℕ) → numbers_seen numbers ≡ numbers_at draft n never → AreNumbersIn (expansions draft.store) (entry_at (draft_view draft) n) numbers
+  pub state-shown : (n : ℕ) → numbers_seen numbers ≡ numbers_at draft n never → AreNumbersIn draft.store (entry_at (draft_view draft) n) numbers
   state-shown n seen = shown-among draft.entries.items n seen
 
   pub state-below : (n : ℕ) → numbers_seen numbers ≡ numbers_at draft n never → AreAllBelow (length draft.store) numbers
   state-below n seen = below-among draft.entries.items n draft.entries_grown.each seen
 
 -- the walk over them is that over the draft
-pub walk-same : (a b : List Node) (before after : model.Draft) (n gives : ℕ) (settings : Settings) (kind : Kind) (entry : Entry) → Keeps (expansions a) (expansions b) → gives < length a → after ≡ before → shapes_view (expansions b) entry ≡ shapes_of after n kind
-    → walk (shape_at (expansions b) gives) settings kind (shapes_view (expansions b) entry) ≡ walk (shape_at (expansions a) gives) settings kind (shapes_of before n kind)
+pub walk-same : (a b : List Shape) (before after : model.Draft) (n gives : ℕ) (settings : Settings) (kind : Kind) (entry : Entry) → Keeps a b → gives < length a → after ≡ before → shapes_view b entry ≡ shapes_of after n kind
+    → walk (shape_at b gives) settings kind (shapes_view b entry) ≡ walk (shape_at a gives) settings kind (shapes_of before n kind)
 walk-same a b before after n gives settings kind entry keeps within same is =
-    ap₂ (λ s e. walk s settings kind e) (shown a b gives keeps within) (is ∙ ap (λ d. shapes_of d n kind) same)
+    ap₂ (λ s e. walk s settings kind e) (kept_shape a b gives keeps within) (is ∙ ap (λ d. shapes_of d n kind) same)

@@ -11,14 +11,13 @@ use Rattle.asl_model.proofs.RunOptions.{none_some, some_inj}
 use Rattle.asl_states.specs.Machine.{state_view}
 use Rattle.asl_states.specs.declared.states.State as states
 use Rattle.asl_draft_laws.specs.Drafts.{DraftEntry, Growth, taken_in, with_element}
-use Rattle.asl_numbered.specs.declared.node.Node.{Node}
-use Rattle.asl_numbered.specs.Expansion.{expansions, Keeps}
+use Rattle.asl_numbered.specs.Expansion.{Keeps}
+use Rattle.asl_numbered.specs.Laws.{kept_shape}
 use Rattle.asl_drafts.specs.Entries.{Makes, ends_room, ends_view, entries_view, entry_room, entry_view, made_part}
 use Rattle.asl_drafts.specs.Growing.{AreEndsGrown, AreGrown, IsEntryGrown, IsGrown, Takes, growth_view}
 use Rattle.asl_drafts.specs.declared.entries.DraftEntry as code
 use Rattle.asl_drafts.specs.declared.entries.Part.TheVariants as part
 use Rattle.asl_drafts.specs.declared.growing.Growing.{Growing}
-use Rattle.asl_state_edges.proofs.Kept.{shown}
 
 -- ---- one element of a list
 
@@ -93,23 +92,23 @@ takes-made flowing before after (Ok changed) takes = takes-makes flowing before 
 takes-made flowing before after (Err e) takes = tt
 
 -- shapes are seen as they were in a table that has grown
-pub growth-kept : (a b : List Node) (g : Growing) → Keeps (expansions a) (expansions b) → IsGrown a g → growth_view (expansions b) g ≡ growth_view (expansions a) g
-growth-kept a b g keeps is = ap (λ (s : Shape). let growth : Growth = record { shape = s; changes_left = g.changes_left } in growth) (shown a b g.number keeps is.within)
+pub growth-kept : (a b : List Shape) (g : Growing) → Keeps a b → IsGrown a g → growth_view b g ≡ growth_view a g
+growth-kept a b g keeps is = ap (λ (s : Shape). let growth : Growth = record { shape = s; changes_left = g.changes_left } in growth) (kept_shape a b g.number keeps is.within)
 
-pub growths-kept : (a b : List Node) (gs : List Growing) → Keeps (expansions a) (expansions b) → All (IsGrown a) gs → All (λ g. growth_view (expansions b) g ≡ growth_view (expansions a) g) gs
-growths-kept a b gs keeps are = All-weaker (IsGrown a) (λ g. growth_view (expansions b) g ≡ growth_view (expansions a) g) (λ g is. growth-kept a b g keeps is) gs are
+pub growths-kept : (a b : List Shape) (gs : List Growing) → Keeps a b → All (IsGrown a) gs → All (λ g. growth_view b g ≡ growth_view a g) gs
+growths-kept a b gs keeps are = All-weaker (IsGrown a) (λ g. growth_view b g ≡ growth_view a g) (λ g is. growth-kept a b g keeps is) gs are
 
-pub ends-same : (a b : List Node) (ends : Vec Growing Global) → Keeps (expansions a) (expansions b) → AreEndsGrown a ends → ends_view (expansions b) ends ≡ ends_view (expansions a) ends
-ends-same a b ends keeps are = same-all (growth_view (expansions a)) (growth_view (expansions b)) (λ g. g) ends.items (growths-kept a b ends.items keeps are)
+pub ends-same : (a b : List Shape) (ends : Vec Growing Global) → Keeps a b → AreEndsGrown a ends → ends_view b ends ≡ ends_view a ends
+ends-same a b ends keeps are = same-all (growth_view a) (growth_view b) (λ g. g) ends.items (growths-kept a b ends.items keeps are)
 
-pub entry-same : (a b : List Node) (entry : code.DraftEntry) → Keeps (expansions a) (expansions b) → IsEntryGrown a entry → entry_view (expansions b) entry ≡ entry_view (expansions a) entry
+pub entry-same : (a b : List Shape) (entry : code.DraftEntry) → Keeps a b → IsEntryGrown a entry → entry_view b entry ≡ entry_view a entry
 entry-same a b entry keeps are = parts-same (growth-kept a b entry.input keeps are.input) (growth-kept a b entry.output keeps are.output) (ends-same a b entry.ends keeps are.ends)
 
-pub entries-same : (a b : List Node) (entries : List code.DraftEntry) → Keeps (expansions a) (expansions b) → AreGrown a entries → All (λ entry. entry_view (expansions b) entry ≡ entry_view (expansions a) entry) entries
-entries-same a b entries keeps are = All-weaker (IsEntryGrown a) (λ entry. entry_view (expansions b) entry ≡ entry_view (expansions a) entry) (λ entry is. entry-same a b entry keeps is) entries are.each
+pub entries-same : (a b : List Shape) (entries : List code.DraftEntry) → Keeps a b → AreGrown a entries → All (λ entry. entry_view b entry ≡ entry_view a entry) entries
+entries-same a b entries keeps are = All-weaker (IsEntryGrown a) (λ entry. entry_view b entry ≡ entry_view a entry) (λ entry is. entry-same a b entry keeps is) entries are.each
 
-pub all-entries-same : (a b : List Node) (entries : List code.DraftEntry) → Keeps (expansions a) (expansions b) → AreGrown a entries → entries_view (expansions b) entries ≡ entries_view (expansions a) entries
-all-entries-same a b entries keeps are = same-all (entry_view (expansions a)) (entry_view (expansions b)) (λ e. e) entries (entries-same a b entries keeps are)
+pub all-entries-same : (a b : List Shape) (entries : List code.DraftEntry) → Keeps a b → AreGrown a entries → entries_view b entries ≡ entries_view a entries
+all-entries-same a b entries keeps are = same-all (entry_view a) (entry_view b) (λ e. e) entries (entries-same a b entries keeps are)
 
 -- ---- one of the shapes of an entry has changed
 
@@ -136,25 +135,25 @@ end-makes make child input input' output output' before after true same alike ma
 end-makes make child input input' output output' before after false same alike makes = record { made = parts-same same alike makes.made; told = parts-same same alike makes.told }
 
 -- so where the result is told
-module _ (s : Shape) (a b : List Node) (entry : code.DraftEntry) (keeps : Keeps (expansions a) (expansions b)) (is : IsEntryGrown a entry) where
-  input-kept : growth_view (expansions b) entry.input ≡ growth_view (expansions a) entry.input
+module _ (s : Shape) (a b : List Shape) (entry : code.DraftEntry) (keeps : Keeps a b) (is : IsEntryGrown a entry) where
+  input-kept : growth_view b entry.input ≡ growth_view a entry.input
   input-kept = growth-kept a b entry.input keeps is.input
 
-  output-kept : growth_view (expansions b) entry.output ≡ growth_view (expansions a) entry.output
+  output-kept : growth_view b entry.output ≡ growth_view a entry.output
   output-kept = growth-kept a b entry.output keeps is.output
 
-  ends-kept : ends_view (expansions b) entry.ends ≡ ends_view (expansions a) entry.ends
+  ends-kept : ends_view b entry.ends ≡ ends_view a entry.ends
   ends-kept = ends-same a b entry.ends keeps is.ends
 
-  pub input-made : {E : Type 0} (r : Result Bool E) (after : Growing) → IfOk r (λ changed. Takes (growth_view (expansions a) entry.input) s changed (growth_view (expansions b) after)) → IfOk r (λ changed. Makes entry_room (made_part part.Input (taken_in s)) (entry_view (expansions a) entry) changed (entry_view (expansions b) (record entry { input = after })))
+  pub input-made : {E : Type 0} (r : Result Bool E) (after : Growing) → IfOk r (λ changed. Takes (growth_view a entry.input) s changed (growth_view b after)) → IfOk r (λ changed. Makes entry_room (made_part part.Input (taken_in s)) (entry_view a entry) changed (entry_view b (record entry { input = after })))
   input-made (Ok changed) after takes = input-makes (taken_in s) _ _ _ _ _ _ changed output-kept ends-kept (takes-makes s _ _ changed takes)
   input-made (Err e) after takes = tt
 
-  pub output-made : {E : Type 0} (r : Result Bool E) (after : Growing) → IfOk r (λ changed. Takes (growth_view (expansions a) entry.output) s changed (growth_view (expansions b) after)) → IfOk r (λ changed. Makes entry_room (made_part part.Output (taken_in s)) (entry_view (expansions a) entry) changed (entry_view (expansions b) (record entry { output = after })))
+  pub output-made : {E : Type 0} (r : Result Bool E) (after : Growing) → IfOk r (λ changed. Takes (growth_view a entry.output) s changed (growth_view b after)) → IfOk r (λ changed. Makes entry_room (made_part part.Output (taken_in s)) (entry_view a entry) changed (entry_view b (record entry { output = after })))
   output-made (Ok changed) after takes = output-makes (taken_in s) _ _ _ _ _ _ changed input-kept ends-kept (takes-makes s _ _ changed takes)
   output-made (Err e) after takes = tt
 
-  pub end-made : {E : Type 0} (child : ℕ) (r : Result Bool E) (after : Vec Growing Global) → IfOk r (λ changed. Makes ends_room (with_element child (taken_in s)) (ends_view (expansions a) entry.ends) changed (ends_view (expansions b) after)) → IfOk r (λ changed. Makes entry_room (made_part (part.End child) (taken_in s)) (entry_view (expansions a) entry) changed (entry_view (expansions b) (record entry { ends = after })))
+  pub end-made : {E : Type 0} (child : ℕ) (r : Result Bool E) (after : Vec Growing Global) → IfOk r (λ changed. Makes ends_room (with_element child (taken_in s)) (ends_view a entry.ends) changed (ends_view b after)) → IfOk r (λ changed. Makes entry_room (made_part (part.End child) (taken_in s)) (entry_view a entry) changed (entry_view b (record entry { ends = after })))
   end-made child (Ok changed) after makes = end-makes (taken_in s) child _ _ _ _ _ _ changed input-kept output-kept makes
   end-made child (Err e) after makes = tt
 

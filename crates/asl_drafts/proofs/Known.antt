@@ -7,9 +7,8 @@ use Rattle.std.specs.Map.{lookup}
 use Rattle.std.specs.Prelude.{IfSome}
 use Rattle.indexmap.specs.IndexMap.{insert_entry}
 use Rattle.asl_model.specs.Shape.{Shape}
-use Rattle.asl_numbered.specs.Expansion.{Keeps}
-use Rattle.asl_numbered.specs.Joins.{Shows}
-use Rattle.asl_numbered.proofs.Expansions.{kept_shape, keeps_longer}
+use Rattle.asl_numbered.specs.Expansion.{Keeps, Shows}
+use Rattle.asl_numbered.specs.Laws.{keeps_longer, kept_shape}
 use Rattle.asl_drafts.specs.Cutting.{cut_to}
 use Rattle.asl_drafts.specs.Cuts.{cut_of, IsCut, AreCuts}
 use Rattle.asl_drafts.specs.contracts.store.CutPartialEq.TheImpl as cut_eq

@@ -10,8 +10,8 @@ use Rattle.asl_model.specs.Shape.{Shape}
 use Rattle.asl_draft_laws.specs.Drafts as model
 use Rattle.asl_draft_laws.specs.Drafts.{step_taken, taken_at}
 use Rattle.asl_draft_laws.specs.Resting.{FlowRests, Memory, StepRests}
-use Rattle.asl_numbered.specs.declared.node.Node.{Node}
-use Rattle.asl_numbered.specs.Expansion.{expansions, shape_at, Keeps}
+use Rattle.asl_numbered.specs.Expansion.{shape_at, Keeps}
+use Rattle.asl_numbered.specs.Laws.{kept_shape}
 use Rattle.asl_flow.specs.declared.doubts.DoubtfulPath.{DoubtfulPath}
 use Rattle.asl_state_edges.specs.View.{broken_view, destination_view, edge_view, example_of, finding_fault_view, step_view, steps_of, AreStepsBelow, IsBrokenBelow, IsStepBelow}
 use Rattle.asl_state_edges.specs.declared.faults.Broken.{Broken}
@@ -20,7 +20,6 @@ use Rattle.asl_state_edges.specs.declared.found.Step.{Step}
 use Rattle.asl_state_edges.specs.declared.found.Step.TheVariants as step
 use Rattle.asl_drafts.specs.Drafted.{room}
 use Rattle.asl_drafts.specs.Entries.{Makes}
-use Rattle.asl_state_edges.proofs.Kept.{shown}
 
 module _ (table : Table) (n : ℕ) (shapes : List Shape) (edge : Edge) where
   -- an edge that leads to a shape of the draft
@@ -55,17 +54,17 @@ step-wider bound wider (step.Flows edge) more below = omega (arith, more, below)
 step-wider bound wider (step.Breaks broken) more below = broken-wider bound wider broken.path more below
 
 -- with the same shape there
-example-kept : (a b : List Node) (path : Option DoubtfulPath) → Keeps (expansions a) (expansions b) → IfSome path (λ p. p.shape < length a) → example_of (expansions b) path ≡ example_of (expansions a) path
+example-kept : (a b : List Shape) (path : Option DoubtfulPath) → Keeps a b → IfSome path (λ p. p.shape < length a) → example_of b path ≡ example_of a path
 example-kept a b None keeps below = refl
-example-kept a b (Some path) keeps below = ap (missing path.path.now) (shown a b path.shape keeps below)
+example-kept a b (Some path) keeps below = ap (missing path.path.now) (kept_shape a b path.shape keeps below)
 
-broken-kept : (a b : List Node) (broken : Broken) → Keeps (expansions a) (expansions b) → IsBrokenBelow (length a) broken → broken_view (expansions b) broken ≡ broken_view (expansions a) broken
+broken-kept : (a b : List Shape) (broken : Broken) → Keeps a b → IsBrokenBelow (length a) broken → broken_view b broken ≡ broken_view a broken
 broken-kept a b broken keeps below = ap (λ example. let breach : Breach = record { field = broken.field.now; fault = finding_fault_view broken.fault; example = example } in breach) (example-kept a b broken.path keeps below)
 
-edge-kept : (a b : List Node) (edge : Edge) → Keeps (expansions a) (expansions b) → edge.flowing < length a → edge_view (expansions b) edge ≡ edge_view (expansions a) edge
-edge-kept a b edge keeps below = rw (shown a b edge.flowing keeps below) refl
+edge-kept : (a b : List Shape) (edge : Edge) → Keeps a b → edge.flowing < length a → edge_view b edge ≡ edge_view a edge
+edge-kept a b edge keeps below = rw (kept_shape a b edge.flowing keeps below) refl
 
-pub step-kept : (a b : List Node) (s : Step) → Keeps (expansions a) (expansions b) → IsStepBelow (length a) s → step_view (expansions b) s ≡ step_view (expansions a) s
+pub step-kept : (a b : List Shape) (s : Step) → Keeps a b → IsStepBelow (length a) s → step_view b s ≡ step_view a s
 step-kept a b (step.Flows edge) keeps below = edge-kept a b edge keeps below
 step-kept a b (step.Breaks broken) keeps below = ap Breaks (broken-kept a b broken keeps below)
 

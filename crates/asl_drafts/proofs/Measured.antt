@@ -8,7 +8,7 @@ use Rattle.std.proofs.lemmas.Option.{slice_get-get_or, slice_get_within}
 use Rattle.asl_model.specs.Shape as model
 use Rattle.asl_numbered.specs.declared.node.NodeField.{NodeField}
 use Rattle.asl_numbered.specs.Expansion.{fields_at, shape_at, shapes_at, Keeps}
-use Rattle.asl_numbered.proofs.Expansions.{kept_shape, keeps_longer}
+use Rattle.asl_numbered.specs.Laws.{keeps_longer, kept_shape}
 use Rattle.asl_drafts.specs.Depths.{told_depth, told_depth_of_elements, told_depth_of_fields, AreDepths}
 
 -- ---- the greater of two numbers

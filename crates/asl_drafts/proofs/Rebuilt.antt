@@ -15,9 +15,10 @@ use Rattle.asl_numbered.specs.declared.kinds.NodeKinds.{NodeKinds}
 use Rattle.asl_numbered.specs.declared.kinds.NodeObjects.{NodeObjects}
 use Rattle.asl_numbered.specs.declared.node.NodeField.{NodeField}
 use Rattle.asl_numbered.specs.TakenApart.{arrays_at, arrays_of, arrays_over, kinds_at, kinds_over, objects_of, objects_over, AreArraysIfAny, AreKindsAt, AreObjectsIfAny}
-use Rattle.asl_numbered.specs.Expansion.{expansions, fields_at, shape_at, shapes_at, shape_over, numbers_in, AreBelow, Keeps, RefersBelow}
+use Rattle.asl_numbered.specs.Expansion.{fields_at, shape_at, shapes_at, shape_over, numbers_in, AreBelow, Keeps, RefersBelow}
 use Rattle.asl_numbered.proofs.Appending.{names, appended}
-use Rattle.asl_numbered.proofs.Expansions.{as_many, below-append, below-wider, kept_shape, shape_over_stays}
+use Rattle.asl_numbered.proofs.Expansions.{shape_over_stays}
+use Rattle.asl_numbered.specs.Laws.{below-append, below-wider, kept_shape}
 use Rattle.asl_drafts.specs.Cutting.{cut_to, cut_arrays_to, cut_objects_to, cut_elements_to, cut_fields_to}
 use Rattle.asl_drafts.specs.Parts.{arrays_in, arrays_with, behind_fields, behind_objects, each_of, fields_with, mention_of, mentions_of, numbers_in_arrays, numbers_in_kinds, numbers_in_objects, objects_in, objects_with, parts_of, parts_of_arrays, parts_of_objects, rebuilt_over, shapes_in, with_parts, AreFieldsWith, CanBePut, IsPut}
 use Rattle.asl_drafts.specs.declared.rebuilding.Rebuilt.{Rebuilt}
@@ -98,10 +99,10 @@ rebuilt_shown table kinds numbers k built count counted objects arrays =
 
 -- ---- in a table that grows
 
-over_kept : (a b : List Node) (node : Node) → Keeps (expansions a) (expansions b) → RefersBelow (length a) node → shape_over (expansions b) node ≡ shape_over (expansions a) node
-over_kept a b node keeps refers = rw keeps.whole (shape_over_stays (expansions a) keeps.added node (rw (as_many a) refers.each))
+over_kept : (a b : List model.Shape) (node : Node) → Keeps a b → RefersBelow (length a) node → shape_over b node ≡ shape_over a node
+over_kept a b node keeps refers = rw keeps.whole (shape_over_stays a keeps.added node refers.each)
 
-objects_stay : (a b : List Node) (level : Option Node) → Keeps (expansions a) (expansions b) → CanBePut (length a) level → objects_in (expansions b) level ≡ objects_in (expansions a) level
+objects_stay : (a b : List model.Shape) (level : Option Node) → Keeps a b → CanBePut (length a) level → objects_in b level ≡ objects_in a level
 objects_stay a b None keeps can = refl
 objects_stay a b (Some node) keeps can = ap objects_of (over_kept a b node keeps can.refers)
 
@@ -110,9 +111,9 @@ arrays_kept b c None keeps within = refl
 arrays_kept b c (Some n) keeps within = ap arrays_of (kept_shape b c n keeps within)
 
 -- both levels
-pub kinds_put : (a b c : List Node) (kinds : NodeKinds) (built : Rebuilt) (put : KindNumbers) → Keeps (expansions a) (expansions b) → Keeps (expansions b) (expansions c) → CanBePut (length a) built.objects → IsPut (expansions a) built.arrays (expansions b) put.arrays → IsPut (expansions b) built.objects (expansions c) put.objects → put.null ≡ kinds.null → put.boolean ≡ kinds.boolean → put.integer ≡ kinds.integer → put.text ≡ kinds.text → kinds_at (expansions c) put ≡ rebuilt_over (expansions a) kinds built
+pub kinds_put : (a b c : List model.Shape) (kinds : NodeKinds) (built : Rebuilt) (put : KindNumbers) → Keeps a b → Keeps b c → CanBePut (length a) built.objects → IsPut a built.arrays b put.arrays → IsPut b built.objects c put.objects → put.null ≡ kinds.null → put.boolean ≡ kinds.boolean → put.integer ≡ kinds.integer → put.text ≡ kinds.text → kinds_at c put ≡ rebuilt_over a kinds built
 kinds_put a b c kinds built put keeps further can arrays objects null boolean integer text =
-    rw (null, boolean, integer, text, arrays_kept (expansions b) (expansions c) put.arrays further arrays.within, arrays.arrays, objects.objects, objects_stay a b built.objects keeps can) refl
+    rw (null, boolean, integer, text, arrays_kept b c put.arrays further arrays.within, arrays.arrays, objects.objects, objects_stay a b built.objects keeps can) refl
 
 -- ---- field by field
 
@@ -182,10 +183,10 @@ fields_below table n (Some objects) are = below-wider objects.number n (numbers_
 pub kinds_below : (table : List model.Shape) (n : ℕ) (kinds : NodeKinds) → AreKindsAt table n kinds → AreBelow n (numbers_in_kinds kinds)
 kinds_below table n kinds are = below-append n (numbers_in_objects kinds.objects) (numbers_in_arrays kinds.arrays) (fields_below table n kinds.objects are.objects) (elements_below table n kinds.arrays are.arrays)
 
-pub parts_below : {E : Type 0} (nodes : List Node) (n : ℕ) (kinds : NodeKinds) (r : Result (Vec ℕ Global) E) → n < length nodes → AreKindsAt (expansions nodes) n kinds → IfOk r (λ numbers. numbers.items ≡ numbers_in_kinds kinds) → IfOk r (λ numbers. AreBelow (length nodes) numbers.items)
-parts_below nodes n kinds (Err e) within are h = tt
-parts_below nodes n kinds (Ok numbers) within are h =
-    subst (AreBelow (length nodes)) (sym h) (below-wider n (length nodes) (numbers_in_kinds kinds) (omega (arith, within)) (kinds_below (expansions nodes) n kinds are))
+pub parts_below : {E : Type 0} (table : List model.Shape) (n : ℕ) (kinds : NodeKinds) (r : Result (Vec ℕ Global) E) → n < length table → AreKindsAt table n kinds → IfOk r (λ numbers. numbers.items ≡ numbers_in_kinds kinds) → IfOk r (λ numbers. AreBelow (length table) numbers.items)
+parts_below table n kinds (Err e) within are h = tt
+parts_below table n kinds (Ok numbers) within are h =
+    subst (AreBelow (length table)) (sym h) (below-wider n (length table) (numbers_in_kinds kinds) (omega (arith, within)) (kinds_below table n kinds are))
 
 -- as many as those of the shape
 pub parts_as_many : (table : List model.Shape) (n : ℕ) (kinds : NodeKinds) (count : ℕ) → kinds_over table kinds ≡ shape_at table n → count ≡ length (parts_of (shape_at table n)) → count ≡ length (numbers_in_kinds kinds)

@@ -9,8 +9,8 @@ use Rattle.asl_draft_laws.specs.Drafts as model
 use Rattle.asl_draft_laws.specs.Drafts.{Row, own_breaches, step_taken, steps_of, steps_taken, taken_at}
 use Rattle.asl_draft_laws.specs.Resting.{FlowRests, IsPassedBy, Memory, Rests, StepRests, StepsRest}
 use Rattle.asl_draft_laws.proofs.PassedOver.{rest-kept, rest-known, rest-push, rests-known, steps-passed}
-use Rattle.asl_numbered.specs.Expansion.{expansions, shape_at, Keeps}
-use Rattle.asl_numbered.proofs.Expansions.{keeps_same, keeps_trans}
+use Rattle.asl_numbered.specs.Expansion.{shape_at, Keeps}
+use Rattle.asl_numbered.specs.Laws.{keeps_same, keeps_trans, kept_shape, kept_within}
 use Rattle.asl_drafts.specs.Calm.{IsCalm, memory_of, has_shape, target_meant}
 use Rattle.asl_drafts.specs.Drafted.{draft_view, room, target_view}
 use Rattle.asl_drafts.specs.Entries.{Makes}
@@ -22,11 +22,10 @@ use Rattle.asl_drafts.specs.declared.draft.Target.{Target}
 use Rattle.asl_drafts.specs.declared.predecessors.Origin.{Origin}
 use Rattle.asl_drafts.specs.declared.walker.Walker.{Walker}
 use Rattle.asl_drafts.proofs.Calm.{meant-same, recalls, remembered, taken-again}
-use Rattle.asl_state_edges.proofs.Kept.{among_shapes, shown, within}
 
 -- what a walker remembers
 abbrev pub known_to : Walker → Memory
-known_to walker = memory_of (expansions walker.draft.store) walker.predecessors
+known_to walker = memory_of walker.draft.store walker.predecessors
 
 -- ---- what flows along an edge is remembered
 
@@ -34,8 +33,8 @@ module _ (one two : Walker) (t : Target) (origin : Origin) (drafts : two.draft �
   -- what flowed along another edge is known as before
   still-known : (into : model.Target) (n place : ℕ) (s : Shape) → (let from : Origin = record { state = n; place = place } in from ≢ origin) → IsTrue (known_to one into n place s) → IsTrue (known_to two into n place s)
   still-known into n place s other known =
-      subst (λ d. IsTrue (memory_of (expansions d.store) two.predecessors into n place s)) (sym drafts)
-      (subst (λ o. IsTrue (has_shape (expansions one.draft.store) o s)) (sym (elsewhere (target_meant into) (record { state = n; place = place }) (inr other))) known)
+      subst (λ d. IsTrue (memory_of d.store two.predecessors into n place s)) (sym drafts)
+      (subst (λ o. IsTrue (has_shape one.draft.store o s)) (sym (elsewhere (target_meant into) (record { state = n; place = place }) (inr other))) known)
 
   -- another state stays calm
   pub still-calm : (table : Table) (declared : Declared) (row : Row) → row.number ≢ origin.state → IsCalm table declared row one → IsCalm table declared row two
@@ -63,10 +62,10 @@ module _ (one two : Walker) (t : Target) (origin : Origin) (drafts : two.draft �
 
 -- ---- it is taken in
 
-module _ (table : Table) (declared : Declared) (row : Row) (one two : Walker) (t : Target) (f : ℕ) (keeps : Keeps (expansions one.draft.store) (expansions two.draft.store)) (same : two.predecessors ≡ one.predecessors) (stays : StaysWaiting one.waiting two.waiting) (in_waits : row.number < length two.waiting.waits.items) (below : f < length one.draft.store) (changed : Bool) where
+module _ (table : Table) (declared : Declared) (row : Row) (one two : Walker) (t : Target) (f : ℕ) (keeps : Keeps one.draft.store two.draft.store) (same : two.predecessors ≡ one.predecessors) (stays : StaysWaiting one.waiting two.waiting) (in_waits : row.number < length two.waiting.waits.items) (below : f < length one.draft.store) (changed : Bool) where
   -- what flows
   abbrev flowing : Shape
-  flowing = shape_at (expansions one.draft.store) f
+  flowing = shape_at one.draft.store f
 
   -- the steps are those of the row's state, and the first ones rest
   abbrev Goes : Walker → List Walked → List Walked → Type 0
@@ -89,14 +88,14 @@ module _ (table : Table) (declared : Declared) (row : Row) (one two : Walker) (t
     -- more is known
     known-more : (into : model.Target) (n place : ℕ) (s : Shape) → IsTrue (known_to one into n place s) → IsTrue (known_to two into n place s)
     known-more into n place s h =
-        subst (λ p. IsTrue (memory_of (expansions two.draft.store) p into n place s)) (sym same) (remembered (expansions one.draft.store) (expansions two.draft.store) one.predecessors into n place s keeps h)
+        subst (λ p. IsTrue (memory_of two.draft.store p into n place s)) (sym same) (remembered one.draft.store two.draft.store one.predecessors into n place s keeps h)
 
     -- this flow too
     this-known : IsTrue (known_to two (target_view t) row.number (length done) flowing)
     this-known =
         let from : Origin = record { state = row.number; place = length done } in
         let is : flowed two.predecessors (target_meant (target_view t)) from ≡ Some f = ap (λ p. flowed p (target_meant (target_view t)) from) same ∙ (ap (λ u. flowed one.predecessors u from) (meant-same t) ∙ here) in
-        recalls (expansions two.draft.store) (flowed two.predecessors (target_meant (target_view t)) from) f flowing is (among_shapes two.draft.store f (within one.draft.store two.draft.store f keeps below)) (shown one.draft.store two.draft.store f keeps below)
+        recalls two.draft.store (flowed two.predecessors (target_meant (target_view t)) from) f flowing is (kept_within one.draft.store two.draft.store f keeps below) (kept_shape one.draft.store two.draft.store f keeps below)
 
     -- where the first steps rest in the new draft, and the flow would change nothing again
     goes-on : steps_of declared (draft_view two.draft) row ≡ steps → StepsRest table row.number (known_to one) (draft_view two.draft) 0 done → taken_at (Some (target_view t)) flowing (draft_view two.draft) ≡ draft_view two.draft → Goes two steps (done ++ step ∷ [])
@@ -116,12 +115,12 @@ module _ (table : Table) (declared : Declared) (row : Row) (one two : Walker) (t
 
     -- where the shape changes, and the state doesn't wait
     is-changed : draft_view two.draft ≡ taken_at (Some (target_view t)) flowing (draft_view one.draft) → IsPassedBy row.number (target_view t)
-        → ((place g : ℕ) → flowed one.predecessors t (record { state = row.number; place = place }) ≡ Some g → g < length one.draft.store → taken_at (Some (target_view t)) (shape_at (expansions two.draft.store) g) (draft_view two.draft) ≡ draft_view two.draft)
+        → ((place g : ℕ) → flowed one.predecessors t (record { state = row.number; place = place }) ≡ Some g → g < length one.draft.store → taken_at (Some (target_view t)) (shape_at two.draft.store g) (draft_view two.draft) ≡ draft_view two.draft)
         → Goes one steps done → Goes two steps (done ++ step ∷ [])
     is-changed made passed again rest = goes-on
         (ap (λ d. steps_of declared d row) made ∙ (steps-passed declared row (target_view t) flowing (draft_view one.draft) passed ∙ rest.0))
         (subst (λ d. StepsRest table row.number (known_to one) d 0 done) (sym made) (rest-kept table row.number (known_to one) (target_view t) flowing (draft_view one.draft) 0 done (taken-again table declared row one.draft.store two.draft.store one.predecessors keeps t flowing (draft_view one.draft) (draft_view two.draft) made again) rest.1))
-        (ap (λ s. taken_at (Some (target_view t)) s (draft_view two.draft)) (sym (shown one.draft.store two.draft.store f keeps below)) ∙ again (length done) f here below)
+        (ap (λ s. taken_at (Some (target_view t)) s (draft_view two.draft)) (sym (kept_shape one.draft.store two.draft.store f keeps below)) ∙ again (length done) f here below)
 
     pub taken-underway : IsUnderway table declared row steps done one → IsUnderway table declared row steps (done ++ step ∷ []) two
     taken-underway was = record { underway = by was.underway }
@@ -135,10 +134,10 @@ module _ (table : Table) (declared : Declared) (row : Row) (one two : Walker) (t
             reads wake true is_w (inl passed) = inl is_w
             reads wake false is_w (inl passed) = inr (is-changed m.made passed again rest)
               where
-                again : (place g : ℕ) → flowed one.predecessors t (record { state = row.number; place = place }) ≡ Some g → g < length one.draft.store → taken_at (Some (target_view t)) (shape_at (expansions two.draft.store) g) (draft_view two.draft) ≡ draft_view two.draft
+                again : (place g : ℕ) → flowed one.predecessors t (record { state = row.number; place = place }) ≡ Some g → g < length one.draft.store → taken_at (Some (target_view t)) (shape_at two.draft.store g) (draft_view two.draft) ≡ draft_view two.draft
                 again place g flow less = pick (wake.again (record { state = row.number; place = place }) g (subst (λ p. flowed p t (record { state = row.number; place = place }) ≡ Some g) (sym same) flow) in_waits less)
                   where
-                    pick : (waits_in two.waiting.waits.items row.number ≡ true) ⊎ (taken_at (Some (target_view t)) (shape_at (expansions two.draft.store) g) (draft_view two.draft) ≡ draft_view two.draft) → taken_at (Some (target_view t)) (shape_at (expansions two.draft.store) g) (draft_view two.draft) ≡ draft_view two.draft
+                    pick : (waits_in two.waiting.waits.items row.number ≡ true) ⊎ (taken_at (Some (target_view t)) (shape_at two.draft.store g) (draft_view two.draft) ≡ draft_view two.draft) → taken_at (Some (target_view t)) (shape_at two.draft.store g) (draft_view two.draft) ≡ draft_view two.draft
                     pick (inl waits) = absurd (false≢true (sym is_w ∙ waits))
                     pick (inr stay) = stay
 
@@ -158,22 +157,22 @@ module _ {E : Type 0} (r : Result Bool E) (zero one two : Walker) (t : Target) (
       by (Err e) told = tt
 
   -- and the one that is walked
-  module _ (table : Table) (f : ℕ) (step : Walked) (keeps : Keeps (expansions one.draft.store) (expansions two.draft.store)) (same : two.predecessors ≡ one.predecessors) (stays : StaysWaiting one.waiting two.waiting) (below : f < length one.draft.store) (here : flowed one.predecessors t origin ≡ Some f) (leads : (known : Memory) (draft : model.Draft) (place : ℕ) → FlowRests origin.state known draft place (Some (target_view t)) (shape_at (expansions one.draft.store) f) → StepRests table origin.state known draft place step) where
+  module _ (table : Table) (f : ℕ) (step : Walked) (keeps : Keeps one.draft.store two.draft.store) (same : two.predecessors ≡ one.predecessors) (stays : StaysWaiting one.waiting two.waiting) (below : f < length one.draft.store) (here : flowed one.predecessors t origin ≡ Some f) (leads : (known : Memory) (draft : model.Draft) (place : ℕ) → FlowRests origin.state known draft place (Some (target_view t)) (shape_at one.draft.store f) → StepRests table origin.state known draft place step) where
     -- one more step of a row with that number
-    step-on : (changed : Bool) → Makes room (taken_at (Some (target_view t)) (shape_at (expansions one.draft.store) f)) (draft_view one.draft) changed (draft_view two.draft) → (changed ≡ true → HaveWoken (length one.draft.store) two.draft two.predecessors t two.waiting.waits.items) → StepsOn table origin step zero two
+    step-on : (changed : Bool) → Makes room (taken_at (Some (target_view t)) (shape_at one.draft.store f)) (draft_view one.draft) changed (draft_view two.draft) → (changed ≡ true → HaveWoken (length one.draft.store) two.draft two.predecessors t two.waiting.waits.items) → StepsOn table origin step zero two
     step-on changed makes wakes = record {
       further = λ declared row steps done number in_waits far was.
           let place : (let from : Origin = record { state = row.number; place = length done } in from ≡ origin) = ap₂ (λ m i. let from : Origin = record { state = m; place = i } in from) number far in
           taken-underway table declared row one two t f keeps same stays in_waits below changed makes wakes steps done step
-          (subst (λ m. (known : Memory) (draft : model.Draft) (at : ℕ) → FlowRests m known draft at (Some (target_view t)) (shape_at (expansions one.draft.store) f) → StepRests table m known draft at step) (sym number) leads)
+          (subst (λ m. (known : Memory) (draft : model.Draft) (at : ℕ) → FlowRests m known draft at (Some (target_view t)) (shape_at one.draft.store f) → StepRests table m known draft at step) (sym number) leads)
           (ap (flowed one.predecessors t) place ∙ here)
           (still-underway zero one t origin drafts waits elsewhere table declared row steps done far was);
     }
 
-    pub steps-told : IfOk r (λ changed. Makes room (taken_at (Some (target_view t)) (shape_at (expansions one.draft.store) f)) (draft_view one.draft) changed (draft_view two.draft)) → IfOk r (λ changed. changed ≡ true → HaveWoken (length one.draft.store) two.draft two.predecessors t two.waiting.waits.items) → IfOk r (λ changed. StepsOn table origin step zero two)
+    pub steps-told : IfOk r (λ changed. Makes room (taken_at (Some (target_view t)) (shape_at one.draft.store f)) (draft_view one.draft) changed (draft_view two.draft)) → IfOk r (λ changed. changed ≡ true → HaveWoken (length one.draft.store) two.draft two.predecessors t two.waiting.waits.items) → IfOk r (λ changed. StepsOn table origin step zero two)
     steps-told makes wakes = by r makes wakes
       where
-        by : (q : Result Bool E) → IfOk q (λ changed. Makes room (taken_at (Some (target_view t)) (shape_at (expansions one.draft.store) f)) (draft_view one.draft) changed (draft_view two.draft)) → IfOk q (λ changed. changed ≡ true → HaveWoken (length one.draft.store) two.draft two.predecessors t two.waiting.waits.items) → IfOk q (λ changed. StepsOn table origin step zero two)
+        by : (q : Result Bool E) → IfOk q (λ changed. Makes room (taken_at (Some (target_view t)) (shape_at one.draft.store f)) (draft_view one.draft) changed (draft_view two.draft)) → IfOk q (λ changed. changed ≡ true → HaveWoken (length one.draft.store) two.draft two.predecessors t two.waiting.waits.items) → IfOk q (λ changed. StepsOn table origin step zero two)
         by (Ok changed) m w = step-on changed m w
         by (Err e) m w = tt
 
@@ -209,7 +208,7 @@ pub record HasWalked (table : Table) (n : ℕ) (steps done : List Walked) (first
   pub waits : StaysWaiting first.waiting now.waiting
   pub others : OthersStayCalm n first now
   pub walked : (declared : Declared) (row : Row) → row.number ≡ n → row.number < length now.waiting.waits.items → steps_of declared (draft_view first.draft) row ≡ steps → IsUnderway table declared row steps done now
-  pub keeps : Keeps (expansions first.draft.store) (expansions now.draft.store)
+  pub keeps : Keeps first.draft.store now.draft.store
 
 module _ (table : Table) (n : ℕ) (steps : List Walked) (first : Walker) where
   -- along none
@@ -219,12 +218,12 @@ module _ (table : Table) (n : ℕ) (steps : List Walked) (first : Walker) where
     waits = record { many = refl; order = refl; stays = λ m h. h };
     others = record { calm = λ other declared row apart in_waits was. was };
     walked = λ declared row number in_waits same. record { underway = inr (same, tt) };
-    keeps = keeps_same (expansions first.draft.store);
+    keeps = keeps_same first.draft.store;
   }
 
   -- along one more
   pub walked-more : (done : List Walked) (step : Walked) (one two : Walker) (origin : Origin) (before changed after : Bool) → HasWalked table n steps done first before one → origin.state ≡ n → length done ≡ origin.place → after ≡ (before || changed)
-      → Makes room (step_taken table origin.state step) (draft_view one.draft) changed (draft_view two.draft) → StaysWaiting one.waiting two.waiting → OthersStayCalm origin.state one two → StepsOn table origin step one two → Keeps (expansions one.draft.store) (expansions two.draft.store)
+      → Makes room (step_taken table origin.state step) (draft_view one.draft) changed (draft_view two.draft) → StaysWaiting one.waiting two.waiting → OthersStayCalm origin.state one two → StepsOn table origin step one two → Keeps one.draft.store two.draft.store
       → HasWalked table n steps (done ++ step ∷ []) first after two
   walked-more done step one two origin before changed after h state place either makes waits others further keeps = record {
     makes = subst (λ c. Makes room (steps_taken table n (done ++ step ∷ [])) (draft_view first.draft) c (draft_view two.draft)) (sym either) (

@@ -5,7 +5,8 @@ use borrow.Author.Tests.{ltb-true, ltb-false}
 use lib.Dec.{ltb}
 use Rattle.asl_model.proofs.RunOptions.{some_inj}
 use Rattle.asl_draft_laws.specs.Drafts.{taken_at}
-use Rattle.asl_numbered.specs.Expansion.{expansions, shape_at, Keeps}
+use Rattle.asl_numbered.specs.Expansion.{shape_at, Keeps}
+use Rattle.asl_numbered.specs.Laws.{kept_shape, kept_within}
 use Rattle.asl_drafts.specs.Drafted.{draft_view, target_view}
 use Rattle.asl_drafts.specs.Predecessors.{flowed}
 use Rattle.asl_drafts.specs.Waiting.{waits_in}
@@ -18,7 +19,6 @@ use Rattle.asl_drafts.specs.declared.predecessors.Inflow.{Inflow}
 use Rattle.asl_drafts.specs.declared.predecessors.Origin.{Origin}
 use Rattle.asl_drafts.specs.declared.predecessors.Predecessors.{Predecessors}
 use Rattle.asl_drafts.specs.declared.waiting.Waiting.{Waiting}
-use Rattle.asl_state_edges.proofs.Kept.{shown, within}
 
 -- ---- one more waits
 
@@ -36,13 +36,13 @@ waits-twice before between after one two = record { many = two.many ∙ one.many
 -- ---- what is remembered
 
 -- the shape would stay in a draft that is the same, in a table that has grown
-pub stays-before : (d e : Draft) (target : Target) (f : ℕ) → Keeps (expansions d.store) (expansions e.store) → draft_view e ≡ draft_view d
-    → (f < length e.store → taken_at (Some (target_view target)) (shape_at (expansions e.store) f) (draft_view e) ≡ draft_view e) → f < length d.store
-    → taken_at (Some (target_view target)) (shape_at (expansions d.store) f) (draft_view d) ≡ draft_view d
+pub stays-before : (d e : Draft) (target : Target) (f : ℕ) → Keeps d.store e.store → draft_view e ≡ draft_view d
+    → (f < length e.store → taken_at (Some (target_view target)) (shape_at e.store f) (draft_view e) ≡ draft_view e) → f < length d.store
+    → taken_at (Some (target_view target)) (shape_at d.store f) (draft_view d) ≡ draft_view d
 stays-before d e target f keeps same stays below =
-    let there = stays (within d.store e.store f keeps below) in
-    let shape = shown d.store e.store f keeps below in
-    ap (λ s. taken_at (Some (target_view target)) s (draft_view d)) (sym shape) ∙ (ap (taken_at (Some (target_view target)) (shape_at (expansions e.store) f)) (sym same) ∙ (there ∙ same))
+    let there = stays (kept_within d.store e.store f keeps below) in
+    let shape = kept_shape d.store e.store f keeps below in
+    ap (λ s. taken_at (Some (target_view target)) s (draft_view d)) (sym shape) ∙ (ap (taken_at (Some (target_view target)) (shape_at e.store f)) (sym same) ∙ (there ∙ same))
 
 module _ (draft : Draft) (target : Target) (ws : List Bool) (items : List Inflow) (index : ℕ) (inflow : Inflow) (at : inflow ≡ get_or items index inflow) (there : index < length items) (so_far : (i : ℕ) (x : Inflow) → i < index → slice_get items i ≡ Some x → WaitsOrStays draft target ws x.state x.flowing) where
   -- the next of them
@@ -59,7 +59,7 @@ module _ (draft : Draft) (target : Target) (ws : List Bool) (items : List Inflow
       still : WaitsOrStays draft target ws x.state x.flowing → WaitsOrStays draft target (slice_set ws inflow.state true) x.state x.flowing
       still h in_ws in_table = by (h (omega (arith, in_ws, set-many ws inflow.state true)) in_table)
         where
-          by : (waits_in ws x.state ≡ true) ⊎ (taken_at (Some (target_view target)) (shape_at (expansions draft.store) x.flowing) (draft_view draft) ≡ draft_view draft) → (waits_in (slice_set ws inflow.state true) x.state ≡ true) ⊎ (taken_at (Some (target_view target)) (shape_at (expansions draft.store) x.flowing) (draft_view draft) ≡ draft_view draft)
+          by : (waits_in ws x.state ≡ true) ⊎ (taken_at (Some (target_view target)) (shape_at draft.store x.flowing) (draft_view draft) ≡ draft_view draft) → (waits_in (slice_set ws inflow.state true) x.state ≡ true) ⊎ (taken_at (Some (target_view target)) (shape_at draft.store x.flowing) (draft_view draft) ≡ draft_view draft)
           by (inl waits) = inl (set-stays ws inflow.state x.state waits)
           by (inr stays) = inr stays
 
@@ -71,7 +71,7 @@ module _ (draft : Draft) (target : Target) (ws : List Bool) (items : List Inflow
       go false more = last (next i x (ltb-false i index more) most found)
 
   -- or the shape would stay
-  pub again-stays : (inflow.flowing < length draft.store → taken_at (Some (target_view target)) (shape_at (expansions draft.store) inflow.flowing) (draft_view draft) ≡ draft_view draft) → (i : ℕ) (x : Inflow) → i < index + 1 → slice_get items i ≡ Some x → WaitsOrStays draft target ws x.state x.flowing
+  pub again-stays : (inflow.flowing < length draft.store → taken_at (Some (target_view target)) (shape_at draft.store inflow.flowing) (draft_view draft) ≡ draft_view draft) → (i : ℕ) (x : Inflow) → i < index + 1 → slice_get items i ≡ Some x → WaitsOrStays draft target ws x.state x.flowing
   again-stays stays i x most found = go (ltb i index) refl
     where
       last : inflow ≡ x → WaitsOrStays draft target ws x.state x.flowing
@@ -94,7 +94,7 @@ again-all draft predecessors target ws items index end found again = record {
 
 -- ---- after a change
 
-pub woken : (bound : ℕ) (d e : Draft) (p q : Predecessors) (target : Target) (ws more : Waiting) → bound ≤ length d.store → Keeps (expansions d.store) (expansions e.store) → draft_view e ≡ draft_view d → q ≡ p → ReaderWaits (target_view target) ws.waits.items → StaysWaiting ws more → PredecessorsWait d p target more.waits.items → HaveWoken bound e q target more.waits.items
+pub woken : (bound : ℕ) (d e : Draft) (p q : Predecessors) (target : Target) (ws more : Waiting) → bound ≤ length d.store → Keeps d.store e.store → draft_view e ≡ draft_view d → q ≡ p → ReaderWaits (target_view target) ws.waits.items → StaysWaiting ws more → PredecessorsWait d p target more.waits.items → HaveWoken bound e q target more.waits.items
 woken bound d e p q target ws more long keeps same preds reader stays again = record {
   reader = record { reader = λ n within. read n (reader.reader n (omega (arith, within, stays.many))) };
   again = λ origin f is in_ws below.
@@ -106,6 +106,6 @@ woken bound d e p q target ws more long keeps same preds reader stays again = re
     read n (inl passed) = inl passed
     read n (inr waits) = inr (stays.stays n waits)
 
-    told : {W : Type 0} (f : ℕ) → f < length d.store → W ⊎ (taken_at (Some (target_view target)) (shape_at (expansions d.store) f) (draft_view d) ≡ draft_view d) → W ⊎ (taken_at (Some (target_view target)) (shape_at (expansions e.store) f) (draft_view e) ≡ draft_view e)
+    told : {W : Type 0} (f : ℕ) → f < length d.store → W ⊎ (taken_at (Some (target_view target)) (shape_at d.store f) (draft_view d) ≡ draft_view d) → W ⊎ (taken_at (Some (target_view target)) (shape_at e.store f) (draft_view e) ≡ draft_view e)
     told f there (inl waits) = inl waits
-    told f there (inr is) = inr (ap₂ (taken_at (Some (target_view target))) (shown d.store e.store f keeps there) same ∙ (is ∙ sym same))
+    told f there (inr is) = inr (ap₂ (taken_at (Some (target_view target))) (kept_shape d.store e.store f keeps there) same ∙ (is ∙ sym same))

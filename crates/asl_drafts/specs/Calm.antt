@@ -8,7 +8,7 @@ use Rattle.asl_model.specs.WrittenNumbered.{same_shape}
 use Rattle.asl_draft_laws.specs.Drafts as model
 use Rattle.asl_draft_laws.specs.Drafts.{Row}
 use Rattle.asl_draft_laws.specs.Resting.{Memory, Rests}
-use Rattle.asl_numbered.specs.Expansion.{expansions, shape_at}
+use Rattle.asl_numbered.specs.Expansion.{shape_at}
 use Rattle.asl_drafts.specs.Drafted.{draft_view}
 use Rattle.asl_drafts.specs.Predecessors.{flowed}
 use Rattle.asl_drafts.specs.Waiting.{waits_in}
@@ -37,5 +37,5 @@ memory_of table predecessors into n place s =
 -- the state of the row waits, or it is at rest
 pub record IsCalm (table : Table) (declared : Declared) (row : Row) (walker : Walker) : Type 0 where
   pub calm : (waits_in walker.waiting.waits.items row.number ≡ true)
-      ⊎ Rests table declared row (memory_of (expansions walker.draft.store) walker.predecessors)
+      ⊎ Rests table declared row (memory_of walker.draft.store walker.predecessors)
       (draft_view walker.draft)

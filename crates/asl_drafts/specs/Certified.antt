@@ -7,8 +7,7 @@ use Rattle.asl_model.specs.Machine.{Kind}
 use Rattle.asl_model.specs.Numbering.{Table}
 use Rattle.asl_model.specs.RecordShapes.{HoldsForState}
 use Rattle.asl_draft_laws.specs.Drafts.{Row, entry_of}
-use Rattle.asl_numbered.specs.declared.node.Node.{Node}
-use Rattle.asl_numbered.specs.Expansion.{expansions}
+use Rattle.asl_model.specs.Shape.{Shape}
 use Rattle.asl_state_edges.specs.declared.found.Entry.{Entry}
 use Rattle.asl_records.specs.Numbered.{numbers_view, AreNumbersBelow}
 use Rattle.asl_records.specs.declared.records.StateNumbers.{StateNumbers}
@@ -25,13 +24,13 @@ pub record AreNumbersOf (entry : Entry) (numbers : StateNumbers) : Type 0 where
   pub item : numbers.item ≡ entry.item
 
 -- the numbers are in the table, and their shapes have few levels
-pub record IsFit (nodes : List Node) (numbers : StateNumbers) : Type 0 where
-  pub below : AreNumbersBelow (length nodes) numbers
-  pub shallow : HoldsForState IsShallow (numbers_view (expansions nodes) numbers)
+pub record IsFit (table : List Shape) (numbers : StateNumbers) : Type 0 where
+  pub below : AreNumbersBelow (length table) numbers
+  pub shallow : HoldsForState IsShallow (numbers_view table numbers)
 
 -- they are those of the shapes of the state of that number and type
 pub record IsCertified (draft : Draft) (number : ℕ) (kind : Kind) (numbers : StateNumbers) : Type 0 where
-  pub shown : numbers_view (expansions draft.store) numbers ≡ shapes_of (draft_view draft) number kind
+  pub shown : numbers_view draft.store numbers ≡ shapes_of (draft_view draft) number kind
   pub fit : IsFit draft.store numbers
 
 -- what is certified of a row, with its name
@@ -40,7 +39,7 @@ row_certified draft row = (row.name, entry_of (draft_view draft) row)
 
 -- an entry with its name
 abbrev pub entry_certified : Draft → String Global × StateNumbers → List ℕ × StateShapes
-entry_certified draft entry = (string_bytes entry.0, numbers_view (expansions draft.store) entry.1)
+entry_certified draft entry = (string_bytes entry.0, numbers_view draft.store entry.1)
 
 -- the entries are those of the rows from that number on
 pub record AreCertified (table : Table) (draft : Draft) (from : ℕ) (entries : List (String Global × StateNumbers))

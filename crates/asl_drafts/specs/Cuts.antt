@@ -2,9 +2,7 @@
 use Rattle.std.specs.Prelude.{◌≡◌, ◌<◌, ℕ, List, length, map}
 use Rattle.std.specs.List.{All}
 use Rattle.asl_model.specs.Shape.{Shape}
-use Rattle.asl_numbered.specs.declared.node.Node.{Node}
-use Rattle.asl_numbered.specs.Expansion.{expansions, shape_at, AreBelow}
-use Rattle.asl_numbered.specs.Joins.{Shows}
+use Rattle.asl_numbered.specs.Expansion.{shape_at, AreBelow, Shows}
 use Rattle.asl_drafts.specs.Cutting.{cut_to}
 use Rattle.asl_drafts.specs.declared.store.Cut.{Cut}
 
@@ -21,7 +19,7 @@ pub record AreCuts (table : List Shape) (entries : List (Cut × ℕ)) : Type 0 w
   pub each : All (IsCut table) entries
 
 -- the numbers in the new table are those of the shapes of the first numbers in the old one, cut to so many levels
-pub record AreCutTo (levels : ℕ) (old : List Node) (numbers : List ℕ) (new : List Node) (cuts : List ℕ)
+pub record AreCutTo (levels : ℕ) (old : List Shape) (numbers : List ℕ) (new : List Shape) (cuts : List ℕ)
     : Type 0 where
-  pub shapes : map (shape_at (expansions new)) cuts ≡ map (λ n. cut_to levels (shape_at (expansions old) n)) numbers
+  pub shapes : map (shape_at new) cuts ≡ map (λ n. cut_to levels (shape_at old n)) numbers
   pub below : AreBelow (length new) cuts

@@ -4,7 +4,6 @@ use Rattle.std.specs.Option.{option_and_then, unwrap_or}
 use Rattle.asl_model.specs.Certificate.{StateShapes}
 use Rattle.asl_model.specs.Machine.{Kind}
 use Rattle.asl_draft_laws.specs.Drafts as model
-use Rattle.asl_numbered.specs.Expansion.{expansions}
 use Rattle.asl_drafts.specs.Entries.{entries_room, entries_view, growing_in, numbers_in}
 use Rattle.asl_drafts.specs.Growing.{growth_view}
 use Rattle.asl_drafts.specs.declared.draft.Draft.{Draft}
@@ -18,8 +17,8 @@ use Rattle.asl_drafts.specs.declared.growing.Growing.{Growing}
 -- its shapes
 abbrev pub draft_view : Draft → model.Draft
 draft_view draft = record {
-  output = growth_view (expansions draft.store) draft.output;
-  entries = entries_view (expansions draft.store) draft.entries.items;
+  output = growth_view draft.store draft.output;
+  entries = entries_view draft.store draft.entries.items;
 }
 
 -- the entry of the state of that number, and what it comes to for a state of that type

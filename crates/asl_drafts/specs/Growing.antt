@@ -4,8 +4,7 @@ use Rattle.std.specs.declared.alloc.Global.{Global}
 use Rattle.std.specs.List.{All}
 use Rattle.asl_model.specs.Shape as model
 use Rattle.asl_draft_laws.specs.Drafts.{Growth, taken_in}
-use Rattle.asl_numbered.specs.declared.node.Node.{Node}
-use Rattle.asl_numbered.specs.Expansion.{expansions, shape_at}
+use Rattle.asl_numbered.specs.Expansion.{shape_at}
 use Rattle.asl_drafts.specs.Cutting.{IsShallow}
 use Rattle.asl_drafts.specs.declared.entries.DraftEntry.{DraftEntry}
 use Rattle.asl_drafts.specs.declared.growing.Growing.{Growing}
@@ -25,18 +24,18 @@ abbrev pub growth_view : List model.Shape → Growing → Growth
 growth_view table g = record { shape = shape_at table g.number; changes_left = g.changes_left }
 
 -- its number is in the table, and the shape has few levels
-pub record IsGrown (nodes : List Node) (g : Growing) : Type 0 where
-  pub within : g.number < length nodes
-  pub shallow : IsShallow (shape_at (expansions nodes) g.number)
+pub record IsGrown (table : List model.Shape) (g : Growing) : Type 0 where
+  pub within : g.number < length table
+  pub shallow : IsShallow (shape_at table g.number)
 
 -- so each of the ends of an entry, each shape of an entry, and of several entries
-abbrev pub AreEndsGrown : List Node → Vec Growing Global → Type 0
-AreEndsGrown nodes ends = All (IsGrown nodes) ends.items
+abbrev pub AreEndsGrown : List model.Shape → Vec Growing Global → Type 0
+AreEndsGrown table ends = All (IsGrown table) ends.items
 
-pub record IsEntryGrown (nodes : List Node) (entry : DraftEntry) : Type 0 where
-  pub input : IsGrown nodes entry.input
-  pub output : IsGrown nodes entry.output
-  pub ends : AreEndsGrown nodes entry.ends
+pub record IsEntryGrown (table : List model.Shape) (entry : DraftEntry) : Type 0 where
+  pub input : IsGrown table entry.input
+  pub output : IsGrown table entry.output
+  pub ends : AreEndsGrown table entry.ends
 
-pub record AreGrown (nodes : List Node) (entries : List DraftEntry) : Type 0 where
-  pub each : All (IsEntryGrown nodes) entries
+pub record AreGrown (table : List model.Shape) (entries : List DraftEntry) : Type 0 where
+  pub each : All (IsEntryGrown table) entries

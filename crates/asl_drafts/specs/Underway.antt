@@ -7,7 +7,6 @@ use Rattle.asl_model.specs.Edges.{Walked}
 use Rattle.asl_model.specs.Numbering.{Table}
 use Rattle.asl_draft_laws.specs.Drafts.{Row, own_breaches, steps_of}
 use Rattle.asl_draft_laws.specs.Resting.{StepsRest}
-use Rattle.asl_numbered.specs.Expansion.{expansions}
 use Rattle.asl_drafts.specs.Calm.{IsCalm, memory_of}
 use Rattle.asl_drafts.specs.Drafted.{draft_view}
 use Rattle.asl_drafts.specs.Waiting.{waits_in}
@@ -20,7 +19,7 @@ pub record IsUnderway (table : Table) (declared : Declared) (row : Row) (steps d
     : Type 0 where
   pub underway : (waits_in walker.waiting.waits.items row.number ≡ true)
       ⊎ ((steps_of declared (draft_view walker.draft) row ≡ steps)
-      × StepsRest table row.number (memory_of (expansions walker.draft.store) walker.predecessors)
+      × StepsRest table row.number (memory_of walker.draft.store walker.predecessors)
       (draft_view walker.draft) 0 done)
 
 -- so after one more step, whose place is that of the origin

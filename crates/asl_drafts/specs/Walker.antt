@@ -4,7 +4,7 @@ use mathlib.Core.Logic.{◌⊎◌}
 use Rattle.asl_draft_laws.specs.Drafts as model
 use Rattle.asl_draft_laws.specs.Drafts.{taken_at}
 use Rattle.asl_draft_laws.specs.Resting.{IsPassedBy}
-use Rattle.asl_numbered.specs.Expansion.{expansions, shape_at}
+use Rattle.asl_numbered.specs.Expansion.{shape_at}
 use Rattle.asl_drafts.specs.Drafted.{draft_view, target_view}
 use Rattle.asl_drafts.specs.Predecessors.{flowed}
 use Rattle.asl_drafts.specs.Waiting.{waits_in}
@@ -28,7 +28,7 @@ pub record ReaderWaits (target : model.Target) (waits : List Bool) : Type 0 wher
 abbrev pub WaitsOrStays : Draft → Target → List Bool → ℕ → ℕ → Type 0
 WaitsOrStays draft target waits state flowing = state < length waits → flowing < length draft.store
     → (waits_in waits state ≡ true)
-    ⊎ (taken_at (Some (target_view target)) (shape_at (expansions draft.store) flowing) (draft_view draft)
+    ⊎ (taken_at (Some (target_view target)) (shape_at draft.store flowing) (draft_view draft)
     ≡ draft_view draft)
 
 -- so for all that is remembered of the shape
@@ -45,5 +45,5 @@ pub record HaveWoken (bound : ℕ) (draft : Draft) (predecessors : Predecessors)
   pub again : (origin : Origin) (flowing : ℕ) → flowed predecessors target origin ≡ Some flowing
       → origin.state < length waits → flowing < bound
       → (waits_in waits origin.state ≡ true)
-      ⊎ (taken_at (Some (target_view target)) (shape_at (expansions draft.store) flowing) (draft_view draft)
+      ⊎ (taken_at (Some (target_view target)) (shape_at draft.store flowing) (draft_view draft)
       ≡ draft_view draft)

@@ -2,8 +2,7 @@
 
 ghost use Rattle.std.specs.Prelude.{◌<◌, length, suc, IfOk, OnOk};
 ghost use Rattle.asl_model.specs.Shape.{Never};
-ghost use Rattle.asl_numbered.specs.Expansion.{expansions};
-ghost use Rattle.asl_numbered.specs.Joins.{Shows};
+ghost use Rattle.asl_numbered.specs.Expansion.{Shows};
 ghost use Rattle.asl_states.specs.Machine.{kind_view};
 ghost use Rattle.asl_states.specs.Table.{table_view};
 ghost use Rattle.asl_drafts.specs.Certified.{AreCertified, AreNumbersOf, IsCertified};
@@ -23,7 +22,7 @@ pub(crate) fn certified_states(
     draft: &Draft,
     never: usize,
 ) -> Result<BTreeMap<String, StateNumbers>, OutOfMemory>
-    requires { Shows (expansions draft.now.store) Never never }
+    requires { Shows draft.now.store Never never }
     ensures { IfOk result
         (λ states. AreCertified (table_view machine.now) draft.now 0 states.entries) }
 {
@@ -52,7 +51,7 @@ fn add_state(
     number: usize,
     states: &mut BTreeMap<String, StateNumbers>,
 ) -> Result<(), OutOfMemory>
-    requires never { Shows (expansions draft.now.store) Never never }
+    requires never { Shows draft.now.store Never never }
     requires within { number < length (table_view machine.now).states }
     ensures { OnOk result
         (AreCertified (table_view machine.now) draft.now (suc number) states.old.entries
@@ -75,7 +74,7 @@ fn certified(
     number: usize,
     kind: &Kind,
 ) -> Result<StateNumbers, OutOfMemory>
-    requires { Shows (expansions draft.now.store) Never never }
+    requires { Shows draft.now.store Never never }
     ensures { IfOk result (IsCertified draft.now number (kind_view kind.now)) }
 {
     let numbers = draft.numbers(number, never)?;

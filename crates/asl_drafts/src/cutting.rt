@@ -4,8 +4,7 @@ ghost use Rattle.std.specs.Prelude.{◌<◌, ◌≤◌, length, IfOk};
 ghost use Rattle.asl_model.specs.ShapeOrder as order;
 ghost use Rattle.asl_drafts.specs.Cutting as model;
 ghost use Rattle.asl_drafts.specs.Cuts.{AreCutTo};
-ghost use Rattle.asl_numbered.specs.Expansion.{expansions, shape_at, AreBelow, Keeps};
-ghost use Rattle.asl_numbered.specs.Joins.{Shows};
+ghost use Rattle.asl_numbered.specs.Expansion.{shape_at, AreBelow, Keeps, Shows};
 
 use crate::store::{Cut, Store};
 use asl_numbered::Node;
@@ -19,10 +18,9 @@ pub(crate) fn join_cut(store: &mut Store, first: usize, second: usize) -> Result
     requires first { first < length store.old }
     requires second { second < length store.old }
     ensures join { IfOk result
-        (Shows (expansions store.new)
-        (model.cut (order.join (shape_at (expansions store.old) first)
-        (shape_at (expansions store.old) second)))) }
-    ensures keeps { Keeps (expansions store.old) (expansions store.new) }
+        (Shows store.new (model.cut (order.join (shape_at store.old first)
+        (shape_at store.old second)))) }
+    ensures keeps { Keeps store.old store.new }
 {
     let joined = store.join(first, second)?;
     cut_to(store, joined, DEEPEST)
@@ -33,10 +31,8 @@ pub(crate) fn join_cut(store: &mut Store, first: usize, second: usize) -> Result
 fn cut_to(store: &mut Store, number: usize, levels: u8) -> Result<usize, OutOfMemory>
     requires within { number < length store.old }
     requires few { levels ≤ model.deepest }
-    ensures cut { IfOk result
-        (Shows (expansions store.new)
-        (model.cut_to levels (shape_at (expansions store.old) number))) }
-    ensures keeps { Keeps (expansions store.old) (expansions store.new) }
+    ensures cut { IfOk result (Shows store.new (model.cut_to levels (shape_at store.old number))) }
+    ensures keeps { Keeps store.old store.new }
 {
     let Some(below) = levels.checked_sub(1) else {
         return store.put(Node::Any);
@@ -62,7 +58,7 @@ fn cut_each(store: &mut Store, numbers: &[usize], levels: u8) -> Result<Vec<usiz
     requires few { levels ≤ model.deepest }
     ensures cut { IfOk result
         (λ cuts. AreCutTo levels store.old numbers.now store.new cuts.items) }
-    ensures keeps { Keeps (expansions store.old) (expansions store.new) }
+    ensures keeps { Keeps store.old store.new }
 {
     let mut cuts = Vec::with_capacity(store.alloc, numbers.len())?;
     for number in numbers {

@@ -3,7 +3,7 @@
 ghost use Rattle.std.specs.Prelude.{◌≡◌, ◌<◌, ◌≤◌, length, IfOk, List, OnOk};
 ghost use Rattle.asl_model.specs.Shape as model;
 ghost use Rattle.asl_model.specs.ShapeOrder.{depth_of_arrays, depth_of_objects};
-ghost use Rattle.asl_numbered.specs.Expansion.{expansions, fields_at, numbers_in, shape_at, shapes_at, AreBelow};
+ghost use Rattle.asl_numbered.specs.Expansion.{fields_at, numbers_in, shape_at, shapes_at, AreBelow};
 ghost use Rattle.asl_numbered.specs.TakenApart.{arrays_over, kinds_over, objects_over};
 ghost use Rattle.asl_drafts.specs.Depths.{told, told_depth, told_depth_of_elements, told_depth_of_fields, AreDepths};
 ghost use Rattle.asl_drafts.specs.Parts.{numbers_in_arrays, numbers_in_kinds, numbers_in_objects};
@@ -20,9 +20,9 @@ pub(crate) fn depth_of(
     number: usize,
 ) -> Result<u8, OutOfMemory>
     requires within { number < length shapes.now }
-    requires right { AreDepths (expansions shapes.now) depths.old.items }
-    ensures right { AreDepths (expansions shapes.now) depths.new.items }
-    ensures depth { IfOk result (λ d. d ≡ told_depth (shape_at (expansions shapes.now) number)) }
+    requires right { AreDepths shapes.now depths.old.items }
+    ensures right { AreDepths shapes.now depths.new.items }
+    ensures depth { IfOk result (λ d. d ≡ told_depth (shape_at shapes.now number)) }
 {
     measure(shapes, depths)?;
     Ok(depths[number])
@@ -30,8 +30,8 @@ pub(crate) fn depth_of(
 
 /// Adds the depths of the shapes that have none so far.
 fn measure(shapes: &Shapes, depths: &mut Vec<u8>) -> Result<(), OutOfMemory>
-    requires { AreDepths (expansions shapes.now) depths.old.items }
-    ensures right { AreDepths (expansions shapes.now) depths.new.items }
+    requires { AreDepths shapes.now depths.old.items }
+    ensures right { AreDepths shapes.now depths.new.items }
     ensures all { OnOk result (length shapes.now ≤ length depths.new.items) }
 {
     for number in depths.len()..shapes.len() {
@@ -43,9 +43,9 @@ fn measure(shapes: &Shapes, depths: &mut Vec<u8>) -> Result<(), OutOfMemory>
 
 /// How deep the shape of that number is, where the depths of those before it are known.
 fn depth_from(shapes: &Shapes, depths: &[u8], number: usize) -> u8
-    requires right { AreDepths (expansions shapes.now) depths.now }
+    requires right { AreDepths shapes.now depths.now }
     requires known { number ≤ length depths.now }
-    ensures { result ≡ told_depth (shape_at (expansions shapes.now) number) }
+    ensures { result ≡ told_depth (shape_at shapes.now number) }
 {
     match shapes.take_apart(number) {
         Some(kinds) => depth_over(depths, kinds),

@@ -71,8 +71,7 @@ impl Draft {
     ghost use Rattle.asl_state_edges.specs.View.{steps_of, AreStepsBelow};
     ghost use Rattle.asl_states.specs.Machine.{kind_view, settings_view};
     ghost use Rattle.asl_states.specs.Table.{table_view};
-    ghost use Rattle.asl_numbered.specs.Expansion.{expansions, shape_at, Keeps};
-    ghost use Rattle.asl_numbered.specs.Joins.{Shows};
+    ghost use Rattle.asl_numbered.specs.Expansion.{shape_at, Keeps, Shows};
     ghost use Rattle.asl_records.specs.Numbered.{numbered_view, AreWithin};
     ghost use Rattle.asl_drafts.specs.Cutting.{IsShallow};
     ghost use Rattle.asl_drafts.specs.Drafted.{draft_view, growing_of, numbers_at, room, shapes_of, target_view};
@@ -82,8 +81,7 @@ impl Draft {
     pub fn new(machine: &Machine, store: Store) -> Result<Draft, OutOfMemory>
         ensures first { IfOk result
             (λ draft. draft_view draft ≡ first_draft (table_view machine.now)) }
-        ensures keeps { IfOk result
-            (λ draft. Keeps (expansions store) (expansions draft.store)) }
+        ensures keeps { IfOk result (λ draft. Keeps store draft.store) }
     {
         let mut store = store;
         let never = store.put(Node::Never)?;
@@ -105,15 +103,13 @@ impl Draft {
     ) -> Result<Vec<Step<'m>>, OutOfMemory>
         requires { gives < length self.old.store }
         ensures walked { IfOk result
-            (λ steps. steps_of (expansions self.new.store) steps.items
-            ≡ walk (shape_at (expansions self.old.store) gives)
+            (λ steps. steps_of self.new.store steps.items ≡ walk (shape_at self.old.store gives)
             (settings_view state.now.settings) (kind_view state.now.kind)
             (shapes_of (draft_view self.old) number (kind_view state.now.kind))) }
         ensures below { IfOk result
             (λ steps. AreStepsBelow (length self.new.store) steps.items) }
         ensures same { draft_view self.new ≡ draft_view self.old }
-        ensures keeps { Keeps (expansions self.old.store)
-            (expansions self.new.store) }
+        ensures keeps { Keeps self.old.store self.new.store }
     {
         let never = self.never()?;
         let numbers = self.numbers(number, never)?;
@@ -149,9 +145,8 @@ impl Draft {
         requires inner { inner < length self.old.store }
         requires outer { outer < length self.old.store }
         ensures as_defined { IfOk result
-            (λ tree. option_map tree_view tree
-            ≡ examples.outside (shape_at (expansions self.old.store) inner)
-            (shape_at (expansions self.old.store) outer)) }
+            (λ tree. option_map tree_view tree ≡ examples.outside (shape_at self.old.store inner)
+            (shape_at self.old.store outer)) }
         ensures same { draft_view self.new ≡ draft_view self.old }
         ensures kept { self.new.store ≡ self.old.store }
     {
@@ -165,10 +160,9 @@ impl Draft {
         requires { path.shape < length self.old.store }
         ensures as_defined { IfOk result
             (λ tree. option_map tree_view tree
-            ≡ missing.counterexample (doubtful_view (expansions self.old.store) path.entry)) }
+            ≡ missing.counterexample (doubtful_view self.old.store path.entry)) }
         ensures same { draft_view self.new ≡ draft_view self.old }
-        ensures keeps { Keeps (expansions self.old.store)
-            (expansions self.new.store) }
+        ensures keeps { Keeps self.old.store self.new.store }
     {
         self.store.counterexample(path)
     }
@@ -178,10 +172,9 @@ impl Draft {
         requires { flowing < length self.old.store }
         ensures takes { IfOk result
             (λ changed. Makes room
-            (taken_at (Some (target_view target)) (shape_at (expansions self.old.store) flowing))
+            (taken_at (Some (target_view target)) (shape_at self.old.store flowing))
             (draft_view self.old) changed (draft_view self.new)) }
-        ensures keeps { Keeps (expansions self.old.store)
-            (expansions self.new.store) }
+        ensures keeps { Keeps self.old.store self.new.store }
     {
         match target.part() {
             None => self.output.take(&mut self.store, flowing),
@@ -196,15 +189,14 @@ impl Draft {
     pub fn would_change(&mut self, target: Target, flowing: usize) -> Result<bool, OutOfMemory>
         ensures stays { IfOk result
             (λ changed. changed ≡ false → flowing < length self.old.store
-            → taken_at (Some (target_view target)) (shape_at (expansions self.old.store) flowing)
+            → taken_at (Some (target_view target)) (shape_at self.old.store flowing)
             (draft_view self.old) ≡ draft_view self.old) }
         ensures changes { IfOk result
             (λ changed. changed ≡ true → (flowing < length self.old.store)
-            × (taken_at (Some (target_view target)) (shape_at (expansions self.old.store) flowing)
+            × (taken_at (Some (target_view target)) (shape_at self.old.store flowing)
             (draft_view self.old) ≢ draft_view self.old)) }
         ensures same { draft_view self.new ≡ draft_view self.old }
-        ensures keeps { Keeps (expansions self.old.store)
-            (expansions self.new.store) }
+        ensures keeps { Keeps self.old.store self.new.store }
     {
         let Some(growing) = self.growing(target) else {
             return Ok(false);
@@ -246,10 +238,9 @@ impl Draft {
 
     // The number of the shape that no tree has.
     fn never(&mut self) -> Result<usize, OutOfMemory>
-        ensures number { IfOk result (Shows (expansions self.new.store) Never) }
+        ensures number { IfOk result (Shows self.new.store Never) }
         ensures same { draft_view self.new ≡ draft_view self.old }
-        ensures keeps { Keeps (expansions self.old.store)
-            (expansions self.new.store) }
+        ensures keeps { Keeps self.old.store self.new.store }
     {
         self.store.put(Node::Never)
     }

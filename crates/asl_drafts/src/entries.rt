@@ -8,7 +8,7 @@ ghost use Rattle.asl_state_edges.specs.Entry.{entry_view as shapes_view, IsEntry
 ghost use Rattle.asl_model.specs.Machine.{kind_of};
 ghost use Rattle.asl_states.specs.Machine.{kind_view};
 ghost use Rattle.asl_states.specs.Table.{table_view};
-ghost use Rattle.asl_numbered.specs.Expansion.{expansions, shape_at, Keeps};
+ghost use Rattle.asl_numbered.specs.Expansion.{shape_at, Keeps};
 ghost use Rattle.asl_drafts.specs.Entries.{AreAllBelow, AreNumbersIn, Makes};
 ghost use Rattle.asl_drafts.specs.Entries.{ends_room, ends_view, entries_room, entries_view, entry_room, entry_view};
 ghost use Rattle.asl_drafts.specs.Entries.{filled_with, growths_in, made_part};
@@ -137,13 +137,12 @@ pub(crate) fn take_in_entries(
     requires grown { AreGrown store.old entries.old.items }
     requires flowing { flowing < length store.old }
     ensures takes { IfOk result
-        (λ changed. Makes entries_room
-        (with_element number
-        (made_part part (taken_in (shape_at (expansions store.old) flowing))))
-        (entries_view (expansions store.old) entries.old.items) changed
-        (entries_view (expansions store.new) entries.new.items)) }
+        (λ changed. Makes entries_room (with_element number
+        (made_part part (taken_in (shape_at store.old flowing))))
+        (entries_view store.old entries.old.items) changed
+        (entries_view store.new entries.new.items)) }
     ensures grown { AreGrown store.new entries.new.items }
-    ensures keeps { Keeps (expansions store.old) (expansions store.new) }
+    ensures keeps { Keeps store.old store.new }
 {
     match entries.get_mut(number) {
         Some(entry) => take_in_entry(store, entry, part, flowing),
@@ -161,12 +160,10 @@ fn take_in_entry(
     requires grown { IsEntryGrown store.old entry.old }
     requires flowing { flowing < length store.old }
     ensures takes { IfOk result
-        (λ changed. Makes entry_room
-        (made_part part (taken_in (shape_at (expansions store.old) flowing)))
-        (entry_view (expansions store.old) entry.old) changed
-        (entry_view (expansions store.new) entry.new)) }
+        (λ changed. Makes entry_room (made_part part (taken_in (shape_at store.old flowing)))
+        (entry_view store.old entry.old) changed (entry_view store.new entry.new)) }
     ensures grown { IsEntryGrown store.new entry.new }
-    ensures keeps { Keeps (expansions store.old) (expansions store.new) }
+    ensures keeps { Keeps store.old store.new }
 {
     match part {
         Part::Input => entry.input.take(store, flowing),
@@ -185,12 +182,10 @@ fn take_in_ends(
     requires grown { AreEndsGrown store.old ends.old }
     requires flowing { flowing < length store.old }
     ensures takes { IfOk result
-        (λ changed. Makes ends_room
-        (with_element child (taken_in (shape_at (expansions store.old) flowing)))
-        (ends_view (expansions store.old) ends.old) changed
-        (ends_view (expansions store.new) ends.new)) }
+        (λ changed. Makes ends_room (with_element child (taken_in (shape_at store.old flowing)))
+        (ends_view store.old ends.old) changed (ends_view store.new ends.new)) }
     ensures grown { AreEndsGrown store.new ends.new }
-    ensures keeps { Keeps (expansions store.old) (expansions store.new) }
+    ensures keeps { Keeps store.old store.new }
 {
     match ends.get_mut(child) {
         Some(growing) => growing.take(store, flowing),

@@ -17,7 +17,7 @@ pub(crate) struct Growing {
 
 impl Growing {
     ghost use Rattle.std.specs.Prelude.{◌≡◌, ◌<◌, length, IfOk};
-    ghost use Rattle.asl_numbered.specs.Expansion.{expansions, shape_at, Keeps};
+    ghost use Rattle.asl_numbered.specs.Expansion.{shape_at, Keeps};
     ghost use Rattle.asl_drafts.specs.Growing.{Takes, IsGrown, growth_view};
 
     /// The shape of that number, unchanged so far.
@@ -36,11 +36,10 @@ impl Growing {
         requires grown { IsGrown store.old self.old }
         requires flowing { flowing < length store.old }
         ensures takes { IfOk result
-            (λ changed. Takes (growth_view (expansions store.old) self.old)
-            (shape_at (expansions store.old) flowing) changed
-            (growth_view (expansions store.new) self.new)) }
+            (λ changed. Takes (growth_view store.old self.old) (shape_at store.old flowing) changed
+            (growth_view store.new self.new)) }
         ensures grown { IsGrown store.new self.new }
-        ensures keeps { Keeps (expansions store.old) (expansions store.new) }
+        ensures keeps { Keeps store.old store.new }
     {
         if self.changes_left == 0 {
             return Ok(false);

@@ -11,8 +11,7 @@ ghost use Rattle.asl_states.specs.Machine.{kind_view, settings_view};
 ghost use Rattle.asl_flow.specs.Doubts.{doubtful_view};
 ghost use Rattle.asl_state_edges.specs.Entry.{entry_view, IsEntryBelow};
 ghost use Rattle.asl_state_edges.specs.View.{steps_of, AreStepsBelow};
-ghost use Rattle.asl_numbered.specs.Expansion.{expansions, shape_at, shape_over, AreBelow, AreDistinct, Keeps, RefersBelow};
-ghost use Rattle.asl_numbered.specs.Joins.{Shows};
+ghost use Rattle.asl_numbered.specs.Expansion.{shape_at, shape_over, AreBelow, AreDistinct, Keeps, RefersBelow, Shows};
 ghost use Rattle.asl_numbered.specs.Kinds.{IsProperNode};
 ghost use Rattle.asl_numbered.specs.TakenApart.{kinds_at};
 ghost use Rattle.asl_drafts.specs.Depths.{told_depth};
@@ -38,7 +37,7 @@ pub(crate) struct Cut {
     pub(crate) levels: u8,
 }
 
-/// The table of a draft's shapes. Contracts see it as they see the shapes.
+/// The table of a draft's shapes. Contracts see the list of them.
 #[derive(Drop)]
 pub struct Store {
     pub(crate) alloc: Global,
@@ -52,20 +51,19 @@ pub struct Store {
 impl Model for Store {
     ghost use Rattle.std.specs.Prelude.{List};
     ghost use Rattle.std.specs.Coded.{coded_list};
-    ghost use Rattle.asl_numbered.specs.contracts.node.Node.{the_row};
-    ghost use Rattle.asl_numbered.specs.declared.node.Node.{Node as Level};
-    ghost use Rattle.asl_numbered.specs.Expansion.{expansions};
+    ghost use Rattle.asl_model.specs.Shape.{Shape as ModelShape};
+    ghost use Rattle.asl_numbered.specs.Coding.{coded_shape};
     ghost use Rattle.asl_drafts.specs.Cuts.{AreCuts};
     ghost use Rattle.asl_drafts.specs.Depths.{AreDepths};
 
-    ghost Value = { List Level };
+    ghost Value = { List ModelShape };
 
-    ghost coded = { coded_list the_row.coded };
+    ghost coded = { coded_list coded_shape };
 
     ghost view = { λ s. s.shapes };
 
-    ghost invariant = { λ s. AreDepths (expansions s.shapes) s.depths.items
-        × AreCuts (expansions s.shapes) s.cuts.entries };
+    ghost invariant = { λ s. AreDepths s.shapes s.depths.items
+        × AreCuts s.shapes s.cuts.entries };
 }
 
 impl Store {
@@ -97,15 +95,15 @@ impl Store {
 
     /// No shape stands under two numbers. Reads nothing, and takes no memory.
     pub(crate) fn are_distinct(&self)
-        ensures distinct { AreDistinct (expansions self.now) }
+        ensures distinct { AreDistinct self.now }
     {
         self.shapes.are_distinct();
     }
 
     /// The number of the shape.
     pub fn add(&mut self, shape: &Shape) -> Result<usize, OutOfMemory>
-        ensures number { IfOk result (Shows (expansions self.new) (view shape.now)) }
-        ensures keeps { Keeps (expansions self.old) (expansions self.new) }
+        ensures number { IfOk result (Shows self.new (view shape.now)) }
+        ensures keeps { Keeps self.old self.new }
     {
         self.shapes.add(shape)
     }
@@ -113,11 +111,9 @@ impl Store {
     /// The number of the shape with that first level, which is proper.
     pub fn put(&mut self, node: Node) -> Result<usize, OutOfMemory>
         requires refers { RefersBelow (length self.old) node }
-        requires proper { IsProperNode (expansions self.old) node }
-        ensures number { IfOk result
-            (Shows (expansions self.new)
-            (shape_over (expansions self.old) node)) }
-        ensures keeps { Keeps (expansions self.old) (expansions self.new) }
+        requires proper { IsProperNode self.old node }
+        ensures number { IfOk result (Shows self.new (shape_over self.old node)) }
+        ensures keeps { Keeps self.old self.new }
     {
         let number = self.shapes.add_node(node)?;
         Ok(number.unwrap())
@@ -129,10 +125,8 @@ impl Store {
         requires first { first < length self.old }
         requires second { second < length self.old }
         ensures join { IfOk result
-            (Shows (expansions self.new)
-            (order.join (shape_at (expansions self.old) first)
-            (shape_at (expansions self.old) second))) }
-        ensures keeps { Keeps (expansions self.old) (expansions self.new) }
+            (Shows self.new (order.join (shape_at self.old first) (shape_at self.old second))) }
+        ensures keeps { Keeps self.old self.new }
     {
         if !self.shapes.inhabited(first).unwrap() {
             return Ok(second);
@@ -150,9 +144,8 @@ impl Store {
         requires inner { inner < length self.old }
         requires outer { outer < length self.old }
         ensures as_defined { IfOk result
-            (λ tree. option_map tree_view tree
-            ≡ examples.outside (shape_at (expansions self.old) inner)
-            (shape_at (expansions self.old) outer)) }
+            (λ tree. option_map tree_view tree ≡ examples.outside (shape_at self.old inner)
+            (shape_at self.old outer)) }
         ensures same { self.new ≡ self.old }
     {
         self.shapes.outside(self.alloc, inner, outer)
@@ -163,8 +156,8 @@ impl Store {
         requires { path.shape < length self.old }
         ensures as_defined { IfOk result
             (λ tree. option_map tree_view tree
-            ≡ missing.counterexample (doubtful_view (expansions self.old) path.entry)) }
-        ensures keeps { Keeps (expansions self.old) (expansions self.new) }
+            ≡ missing.counterexample (doubtful_view self.old path.entry)) }
+        ensures keeps { Keeps self.old self.new }
     {
         missing_at(self.alloc, &mut self.shapes, path.shape, path.path)
     }
@@ -179,11 +172,11 @@ impl Store {
         requires entry { IsEntryBelow (length self.old) entry }
         requires gives { gives < length self.old }
         ensures walked { IfOk result
-            (λ steps. steps_of (expansions self.new) steps.items
-            ≡ walk (shape_at (expansions self.old) gives) (settings_view state.now.settings)
-            (kind_view state.now.kind) (entry_view (expansions self.old) entry.entry)) }
+            (λ steps. steps_of self.new steps.items
+            ≡ walk (shape_at self.old gives) (settings_view state.now.settings)
+            (kind_view state.now.kind) (entry_view self.old entry.entry)) }
         ensures below { IfOk result (λ steps. AreStepsBelow (length self.new) steps.items) }
-        ensures keeps { Keeps (expansions self.old) (expansions self.new) }
+        ensures keeps { Keeps self.old self.new }
     {
         edges_of(self.alloc, &mut self.shapes, state, entry, gives)
     }
@@ -191,8 +184,7 @@ impl Store {
     /// How deep the shape of that number is, 255 where it is deeper.
     pub(crate) fn depth(&mut self, number: usize) -> Result<u8, OutOfMemory>
         requires { number < length self.old }
-        ensures depth { IfOk result
-            (λ d. d ≡ told_depth (shape_at (expansions self.old) number)) }
+        ensures depth { IfOk result (λ d. d ≡ told_depth (shape_at self.old number)) }
         ensures same { self.new ≡ self.old }
     {
         depth_of(&self.shapes, &mut self.depths, number)
@@ -200,8 +192,7 @@ impl Store {
 
     /// The number of the shape that is cut so, if it is known.
     pub(crate) fn known(&self, cut: Cut) -> Option<usize>
-        ensures { IfSome result
-            (Shows (expansions self.now) (cut_of (expansions self.now) cut)) }
+        ensures { IfSome result (Shows self.now (cut_of self.now cut)) }
     {
         self.cuts.get(&cut).copied()
     }
@@ -209,8 +200,7 @@ impl Store {
     /// Remembers the number of the shape that is cut so.
     pub(crate) fn remember(&mut self, cut: Cut, number: usize) -> Result<(), OutOfMemory>
         requires within { cut.number < length self.old }
-        requires shown { Shows (expansions self.old)
-            (cut_of (expansions self.old) cut) number }
+        requires shown { Shows self.old (cut_of self.old cut) number }
         ensures { self.new ≡ self.old }
     {
         drop(self.cuts.insert(cut, number)?);
@@ -221,8 +211,8 @@ impl Store {
     pub(crate) fn parts(&self, number: usize) -> Result<Vec<usize>, OutOfMemory>
         requires { number < length self.now }
         ensures parts { IfOk result
-            (λ numbers. map (shape_at (expansions self.now)) numbers.items
-            ≡ parts_of (shape_at (expansions self.now) number)) }
+            (λ numbers. map (shape_at self.now) numbers.items
+            ≡ parts_of (shape_at self.now number)) }
         ensures below { IfOk result
             (λ numbers. AreBelow (length self.now) numbers.items) }
     {
@@ -236,13 +226,11 @@ impl Store {
     pub(crate) fn rebuild(&mut self, number: usize, parts: &[usize]) -> Result<usize, OutOfMemory>
         requires within { number < length self.old }
         requires below { AreBelow (length self.old) parts.now }
-        requires counted { length parts.now
-            ≡ length (parts_of (shape_at (expansions self.old) number)) }
+        requires counted { length parts.now ≡ length (parts_of (shape_at self.old number)) }
         ensures rebuilt { IfOk result
-            (Shows (expansions self.new)
-            (with_parts (shape_at (expansions self.old) number)
-            (map (shape_at (expansions self.old)) parts.now))) }
-        ensures keeps { Keeps (expansions self.old) (expansions self.new) }
+            (Shows self.new (with_parts (shape_at self.old number)
+            (map (shape_at self.old) parts.now))) }
+        ensures keeps { Keeps self.old self.new }
     {
         let Some(kinds) = self.shapes.take_apart(number) else {
             return Ok(number);
@@ -268,8 +256,8 @@ impl Store {
     // The number of the shape with that first level, if there is one.
     fn put_level(&mut self, level: Option<Node>) -> Result<Option<usize>, OutOfMemory>
         requires { CanBePut (length self.old) level }
-        ensures number { IfOk result (IsPut (expansions self.old) level (expansions self.new)) }
-        ensures keeps { Keeps (expansions self.old) (expansions self.new) }
+        ensures number { IfOk result (IsPut self.old level self.new) }
+        ensures keeps { Keeps self.old self.new }
     {
         match level {
             Some(node) => Ok(Some(self.put(node)?)),
@@ -279,9 +267,8 @@ impl Store {
 
     // The number of the shape of these kinds.
     fn put_kinds(&mut self, kinds: KindNumbers) -> Result<usize, OutOfMemory>
-        ensures number { IfOk result
-            (Shows (expansions self.new) (kinds_at (expansions self.old) kinds)) }
-        ensures keeps { Keeps (expansions self.old) (expansions self.new) }
+        ensures number { IfOk result (Shows self.new (kinds_at self.old kinds)) }
+        ensures keeps { Keeps self.old self.new }
     {
         self.shapes.add_kinds(kinds)
     }

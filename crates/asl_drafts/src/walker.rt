@@ -27,7 +27,7 @@ impl Walker {
     ghost use Rattle.asl_states.specs.Table.{table_view};
     ghost use Rattle.asl_drafts.specs.Calm.{IsCalm};
     ghost use Rattle.asl_drafts.specs.Underway.{IsCalmAfter, OthersStayCalm, StepsOn};
-    ghost use Rattle.asl_numbered.specs.Expansion.{expansions, shape_at, Keeps};
+    ghost use Rattle.asl_numbered.specs.Expansion.{shape_at, Keeps};
     ghost use Rattle.asl_drafts.specs.Drafted.{draft_view, room, target_view};
     ghost use Rattle.asl_drafts.specs.Entries.{Makes};
 
@@ -42,17 +42,15 @@ impl Walker {
     ) -> Result<bool, OutOfMemory>
         requires { AreStepsBelow (length self.old.draft.store) steps.now }
         ensures takes { IfOk result
-            (λ changed. Makes room
-            (steps_taken (table_view machine.now) number
-            (steps_of (expansions self.old.draft.store) steps.now))
+            (λ changed. Makes room (steps_taken (table_view machine.now) number
+            (steps_of self.old.draft.store steps.now))
             (draft_view self.old.draft) changed (draft_view self.new.draft)) }
         ensures waits { StaysWaiting self.old.waiting self.new.waiting }
         ensures others { IfOk result (λ changed. OthersStayCalm number self.old self.new) }
         ensures walked { IfOk result
             (λ changed. IsCalmAfter (table_view machine.now) number
-            (steps_of (expansions self.old.draft.store) steps.now) self.old self.new) }
-        ensures keeps { Keeps (expansions self.old.draft.store)
-            (expansions self.new.draft.store) }
+            (steps_of self.old.draft.store steps.now) self.old self.new) }
+        ensures keeps { Keeps self.old.draft.store self.new.draft.store }
     {
         let mut changed = false;
         for (place, step) in steps.iter().enumerate() {
@@ -76,17 +74,15 @@ impl Walker {
     ) -> Result<bool, OutOfMemory>
         requires { IsStepBelow (length self.old.draft.store) step.now }
         ensures takes { IfOk result
-            (λ changed. Makes room
-            (step_taken (table_view machine.now) origin.state
-            (step_view (expansions self.old.draft.store) step.now))
+            (λ changed. Makes room (step_taken (table_view machine.now) origin.state
+            (step_view self.old.draft.store step.now))
             (draft_view self.old.draft) changed (draft_view self.new.draft)) }
         ensures waits { StaysWaiting self.old.waiting self.new.waiting }
         ensures others { IfOk result (λ changed. OthersStayCalm origin.state self.old self.new) }
         ensures walked { IfOk result
             (λ changed. StepsOn (table_view machine.now) origin
-            (step_view (expansions self.old.draft.store) step.now) self.old self.new) }
-        ensures keeps { Keeps (expansions self.old.draft.store)
-            (expansions self.new.draft.store) }
+            (step_view self.old.draft.store step.now) self.old self.new) }
+        ensures keeps { Keeps self.old.draft.store self.new.draft.store }
     {
         match step {
             Step::Flows(edge) => self.take_edge(machine, origin, edge),
@@ -103,17 +99,15 @@ impl Walker {
     ) -> Result<bool, OutOfMemory>
         requires { edge.now.flowing < length self.old.draft.store }
         ensures takes { IfOk result
-            (λ changed. Makes room
-            (step_taken (table_view machine.now) origin.state
-            (edge_view (expansions self.old.draft.store) edge.now))
+            (λ changed. Makes room (step_taken (table_view machine.now) origin.state
+            (edge_view self.old.draft.store edge.now))
             (draft_view self.old.draft) changed (draft_view self.new.draft)) }
         ensures waits { StaysWaiting self.old.waiting self.new.waiting }
         ensures others { IfOk result (λ changed. OthersStayCalm origin.state self.old self.new) }
         ensures walked { IfOk result
             (λ changed. StepsOn (table_view machine.now) origin
-            (edge_view (expansions self.old.draft.store) edge.now) self.old self.new) }
-        ensures keeps { Keeps (expansions self.old.draft.store)
-            (expansions self.new.draft.store) }
+            (edge_view self.old.draft.store edge.now) self.old self.new) }
+        ensures keeps { Keeps self.old.draft.store self.new.draft.store }
     {
         match target_of(machine, origin.state, edge.destination) {
             Some(target) => {
@@ -129,9 +123,8 @@ impl Walker {
     pub fn take(&mut self, target: Target, flowing: usize) -> Result<bool, OutOfMemory>
         requires { flowing < length self.old.draft.store }
         ensures takes { IfOk result
-            (λ changed. Makes room
-            (taken_at (Some (target_view target))
-            (shape_at (expansions self.old.draft.store) flowing))
+            (λ changed. Makes room (taken_at (Some (target_view target))
+            (shape_at self.old.draft.store flowing))
             (draft_view self.old.draft) changed (draft_view self.new.draft)) }
         ensures waits { StaysWaiting self.old.waiting self.new.waiting }
         ensures woken { IfOk result
@@ -143,8 +136,7 @@ impl Walker {
             → row.number < length self.new.waiting.waits.items
             → IsCalm table declared row self.old → IsCalm table declared row self.new) }
         ensures predecessors { self.new.predecessors ≡ self.old.predecessors }
-        ensures keeps { Keeps (expansions self.old.draft.store)
-            (expansions self.new.draft.store) }
+        ensures keeps { Keeps self.old.draft.store self.new.draft.store }
     {
         let changed = self.draft.take(target, flowing)?;
         if changed {
@@ -177,8 +169,7 @@ impl Walker {
             self.new.waiting.waits.items) }
         ensures draft { draft_view self.new.draft ≡ draft_view self.old.draft }
         ensures predecessors { self.new.predecessors ≡ self.old.predecessors }
-        ensures keeps { Keeps (expansions self.old.draft.store)
-            (expansions self.new.draft.store) }
+        ensures keeps { Keeps self.old.draft.store self.new.draft.store }
     {
         let inflows = self.predecessors.inflows(target)?;
         for inflow in &inflows {

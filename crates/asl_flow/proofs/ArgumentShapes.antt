@@ -7,20 +7,18 @@ use Rattle.asl_intrinsic.specs.declared.call.Arg as code
 use Rattle.asl_model.specs.Intrinsic.{InInput, ItemIndex, InItem}
 use Rattle.asl_model.specs.Shape as model
 use Rattle.asl_model.specs.ShapeFlow.{argument_shape, argument_shapes, and_argument, reference_shape, unless_doubtful}
-use Rattle.asl_numbered.specs.declared.node.Node.{Node}
-use Rattle.asl_numbered.specs.Expansion.{expansions, shape_at, shapes_at, AreBelow, Keeps}
-use Rattle.asl_numbered.proofs.Expansions.{as_many, below-append, below-wider, keeps_longer}
+use Rattle.asl_numbered.specs.Expansion.{shape_at, shapes_at, AreBelow, Keeps}
+use Rattle.asl_numbered.specs.Laws.{below-append, below-wider, keeps_longer, kept_shape}
 use Rattle.asl_path.specs.declared.RefPath.{RefPath}
 use Rattle.asl_flow.specs.CallAnswer.{AnswersAll}
-use Rattle.asl_flow.proofs.Numbered.{still_shown}
 
 -- the shapes of numbers, each of which there is
 abbrev pub each_shown : List model.Shape → List ℕ → List (Option model.Shape)
 each_shown table ns = map (λ n. Some (shape_at table n)) ns
 
-each-kept : (old new : List Node) (ns : List ℕ) → Keeps (expansions old) (expansions new) → AreBelow (length old) ns → each_shown (expansions new) ns ≡ each_shown (expansions old) ns
+each-kept : (old new : List model.Shape) (ns : List ℕ) → Keeps old new → AreBelow (length old) ns → each_shown new ns ≡ each_shown old ns
 each-kept old new [] keeps below = refl
-each-kept old new (n ∷ ns) keeps below = rw (still_shown old new n keeps below.0, each-kept old new ns keeps below.1) refl
+each-kept old new (n ∷ ns) keeps below = rw (kept_shape old new n keeps below.0, each-kept old new ns keeps below.1) refl
 
 module _ (input : model.Shape) (item : Option model.Shape) where
   -- the shapes of arguments, as far as there are some
@@ -28,23 +26,23 @@ module _ (input : model.Shape) (item : Option model.Shape) where
   each_shape arguments = map (λ a. argument_shape (argument_view a) input item) arguments
 
   -- the numbers are in the table, and their shapes are those of the arguments
-  pub record AreShapesOf (nodes : List Node) (arguments : List Arg) (ns : List ℕ) : Type 0 where
-    pub within : AreBelow (length nodes) ns
-    pub same : each_shape arguments ≡ each_shown (expansions nodes) ns
+  pub record AreShapesOf (table : List model.Shape) (arguments : List Arg) (ns : List ℕ) : Type 0 where
+    pub within : AreBelow (length table) ns
+    pub same : each_shape arguments ≡ each_shown table ns
 
   -- none so far
-  pub no_arguments : (nodes : List Node) → AreShapesOf nodes [] []
-  no_arguments nodes = record { within = tt; same = refl }
+  pub no_arguments : (table : List model.Shape) → AreShapesOf table [] []
+  no_arguments table = record { within = tt; same = refl }
 
   -- one more, in a table that has grown
-  pub argument_more : (old new : List Node) (before after : List Arg) (a : Arg) (ns ms : List ℕ) (n : ℕ) → Keeps (expansions old) (expansions new) → AreShapesOf old before ns → argument_shape (argument_view a) input item ≡ Some (shape_at (expansions new) n) → n < length new → after ≡ before ++ a ∷ [] → ms ≡ ns ++ n ∷ [] → AreShapesOf new after ms
+  pub argument_more : (old new : List model.Shape) (before after : List Arg) (a : Arg) (ns ms : List ℕ) (n : ℕ) → Keeps old new → AreShapesOf old before ns → argument_shape (argument_view a) input item ≡ Some (shape_at new n) → n < length new → after ≡ before ++ a ∷ [] → ms ≡ ns ++ n ∷ [] → AreShapesOf new after ms
   argument_more old new before after a ns ms n keeps are own is more also =
-      let longer : length old ≤ length new = omega (arith, keeps_longer (expansions old) (expansions new) keeps, as_many old, as_many new) in
+      let longer : length old ≤ length new = omega (arith, keeps_longer old new keeps) in
       let within : AreBelow (length new) ns = below-wider (length old) (length new) ns longer are.within in
-      let now : each_shape before ≡ each_shown (expansions new) ns = are.same ∙ sym (each-kept old new ns keeps are.within) in
+      let now : each_shape before ≡ each_shown new ns = are.same ∙ sym (each-kept old new ns keeps are.within) in
       rw (more, also) (record {
         within = below-append (length new) ns (n ∷ []) within (is, tt);
-        same = map-append (λ x. argument_shape (argument_view x) input item) before (a ∷ []) ∙ rw (now, own) (sym (map-append (λ m. Some (shape_at (expansions new) m)) ns (n ∷ [])));
+        same = map-append (λ x. argument_shape (argument_view x) input item) before (a ∷ []) ∙ rw (now, own) (sym (map-append (λ m. Some (shape_at new m)) ns (n ∷ [])));
       })
 
   shapes-given : (table : List model.Shape) (arguments : List Arg) (ns : List ℕ) → each_shape arguments ≡ each_shown table ns → argument_shapes (arguments_view arguments) input item ≡ Some (shapes_at table ns)
@@ -56,9 +54,9 @@ module _ (input : model.Shape) (item : Option model.Shape) where
       rw (first, shapes-given table arguments ns (cc)) refl
 
   -- the arguments gone through, to the end
-  pub arguments_end : (nodes : List Node) (arguments : List Arg) (i : ℕ) (v : Vec ℕ Global) → length arguments ≤ i → AreShapesOf nodes (take i arguments) v.items → AnswersAll nodes (argument_shapes (arguments_view arguments) input item) (Some v)
-  arguments_end nodes arguments i v end are = record {
-    same = shapes-given (expansions nodes) arguments v.items (ap each_shape (sym (take_all i arguments end)) ∙ are.same);
+  pub arguments_end : (table : List model.Shape) (arguments : List Arg) (i : ℕ) (v : Vec ℕ Global) → length arguments ≤ i → AreShapesOf table (take i arguments) v.items → AnswersAll table (argument_shapes (arguments_view arguments) input item) (Some v)
+  arguments_end table arguments i v end are = record {
+    same = shapes-given table arguments v.items (ap each_shape (sym (take_all i arguments end)) ∙ are.same);
     within = are.within;
   }
 
@@ -72,8 +70,8 @@ module _ (input : model.Shape) (item : Option model.Shape) where
   none-at (a ∷ arguments) (suc i) d h e = no-rest _ _ (none-at arguments i d (omega arith) e)
 
   -- where one argument may fail, the arguments have no shapes
-  pub arguments_fail : (nodes : List Node) (arguments : List Arg) (i : ℕ) (a : Arg) → i < length arguments → a ≡ get_or arguments i a → argument_shape (argument_view a) input item ≡ None → AnswersAll nodes (argument_shapes (arguments_view arguments) input item) None
-  arguments_fail nodes arguments i a within at none = record {
+  pub arguments_fail : (table : List model.Shape) (arguments : List Arg) (i : ℕ) (a : Arg) → i < length arguments → a ≡ get_or arguments i a → argument_shape (argument_view a) input item ≡ None → AnswersAll table (argument_shapes (arguments_view arguments) input item) None
+  arguments_fail table arguments i a within at none = record {
     same = none-at arguments i a within (ap (λ x. argument_shape (argument_view x) input item) (sym at) ∙ none);
     within = tt;
   }

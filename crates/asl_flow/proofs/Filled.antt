@@ -13,15 +13,13 @@ use Rattle.asl_model.specs.ShapeFlow.{doubts, element_doubts, field_doubts, fill
 use Rattle.asl_model.specs.ShapeOrder.{set_mention}
 use Rattle.asl_model.specs.Template as template
 use Rattle.asl_numbered.specs.declared.node.NodeField.{NodeField}
-use Rattle.asl_numbered.specs.declared.node.Node.{Node}
-use Rattle.asl_numbered.specs.Expansion.{expansions, AreNumbersOf, AreFieldsOf, Keeps}
+use Rattle.asl_numbered.specs.Expansion.{AreNumbersOf, AreFieldsOf, Keeps, Shows}
 use Rattle.asl_template.proofs.Values.{Entry}
 use Rattle.asl_template.specs.View.{view, elements_view, entries_view}
 use Rattle.asl_template.specs.declared.template.Template.{Template, the_lemmas}
 use Rattle.asl_template.specs.declared.template.Template as code
 use Rattle.asl_flow.specs.Doubts.{fault_of, AreDoubtsBelow, IsFlowIn}
 use Rattle.asl_flow.specs.Leaving.{FlowsTo}
-use Rattle.asl_flow.specs.Numbers.{Shows}
 use Rattle.asl_flow.specs.TemplateAnswer.{told_at, named_fault, ArePutDown, IsFilled}
 use Rattle.asl_flow.specs.declared.doubts.Doubt.{Doubt}
 use Rattle.asl_flow.proofs.Composed.{shapes_by}
@@ -29,9 +27,9 @@ use Rattle.asl_flow.proofs.PutDoubts.{Told, put_behind}
 use Rattle.asl_flow.proofs.Needed.{needed_by, set_in_order}
 
 -- no doubt is added for none
-none_added : (nodes : List Node) (added : List Doubt) → [] ≡ map (named_fault (expansions nodes)) added → added ≡ []
-none_added nodes [] e = refl
-none_added nodes (d ∷ added) e = absurd (cc)
+none_added : (table : List model.Shape) (added : List Doubt) → [] ≡ map (named_fault table) added → added ≡ []
+none_added table [] e = refl
+none_added table (d ∷ added) e = absurd (cc)
 
 module _ (input : model.Shape) (item : Option model.Shape) where
   -- the shape of a template's value
@@ -45,15 +43,15 @@ module _ (input : model.Shape) (item : Option model.Shape) where
   elements-more name (first ∷ ts) t = ap (λ told. doubts (view first) name input item ++ told) (elements-more name ts t) ∙ sym (append_assoc (doubts (view first) name input item) (element_doubts (elements_view ts) name input item) (doubts (view t) name input item))
 
   -- the doubts of one more element, in a table that has grown
-  pub element_put : (old new : List Node) (keeps : Keeps (expansions old) (expansions new)) (field name : List ℕ) (before after : List Template) (t : Template) (xs ys zs : List Doubt) → after ≡ before ++ t ∷ [] → ArePutDown old field (element_doubts (elements_view before) name input item) xs ys → ArePutDown new field (doubts (view t) name input item) ys zs
+  pub element_put : (old new : List model.Shape) (keeps : Keeps old new) (field name : List ℕ) (before after : List Template) (t : Template) (xs ys zs : List Doubt) → after ≡ before ++ t ∷ [] → ArePutDown old field (element_doubts (elements_view before) name input item) xs ys → ArePutDown new field (doubts (view t) name input item) ys zs
       → ArePutDown new field (element_doubts (elements_view after) name input item) xs zs
   element_put old new keeps field name before after t xs ys zs more h k =
       let both = put_behind old new keeps field (element_doubts (elements_view before) name input item) (doubts (view t) name input item) xs ys zs h k in
       rw (more, elements-more name before t) both
 
   -- those of all, once they are gone through
-  pub elements_put : (nodes : List Node) (field name : List ℕ) (ts : List Template) (i : ℕ) (xs ys : List Doubt) → length ts ≤ i → ArePutDown nodes field (element_doubts (elements_view (take i ts)) name input item) xs ys → ArePutDown nodes field (element_doubts (elements_view ts) name input item) xs ys
-  elements_put nodes field name ts i xs ys end h = subst (λ us. ArePutDown nodes field (element_doubts (elements_view us) name input item) xs ys) (take_all i ts end) h
+  pub elements_put : (table : List model.Shape) (field name : List ℕ) (ts : List Template) (i : ℕ) (xs ys : List Doubt) → length ts ≤ i → ArePutDown table field (element_doubts (elements_view (take i ts)) name input item) xs ys → ArePutDown table field (element_doubts (elements_view ts) name input item) xs ys
+  elements_put table field name ts i xs ys end h = subst (λ us. ArePutDown table field (element_doubts (elements_view us) name input item) xs ys) (take_all i ts end) h
 
   elements_shown : (ts : List Template) → shapes_by of_value ts ≡ filled_elements (elements_view ts) input item
   elements_shown [] = refl
@@ -70,7 +68,7 @@ module _ (input : model.Shape) (item : Option model.Shape) where
   fields-more (first ∷ es) e = ap (λ told. doubts (view first.1) (string_bytes first.0) input item ++ told) (fields-more es e) ∙ sym (append_assoc (doubts (view first.1) (string_bytes first.0) input item) (field_doubts (entries_view es) input item) (doubts (view e.1) (string_bytes e.0) input item))
 
   -- the doubts of one more field, under its name
-  pub field_put : (old new : List Node) (keeps : Keeps (expansions old) (expansions new)) (field name : List ℕ) (done : List Entry) (e : Entry) (xs ys zs : List Doubt) → name ≡ string_bytes e.0 → ArePutDown old field (field_doubts (entries_view done) input item) xs ys → ArePutDown new field (doubts (view e.1) name input item) ys zs
+  pub field_put : (old new : List model.Shape) (keeps : Keeps old new) (field name : List ℕ) (done : List Entry) (e : Entry) (xs ys zs : List Doubt) → name ≡ string_bytes e.0 → ArePutDown old field (field_doubts (entries_view done) input item) xs ys → ArePutDown new field (doubts (view e.1) name input item) ys zs
       → ArePutDown new field (field_doubts (entries_view (done ++ e ∷ [])) input item) xs zs
   field_put old new keeps field name done e xs ys zs named h k =
       let own = subst (λ n. ArePutDown new field (doubts (view e.1) n input item) ys zs) named k in
@@ -78,10 +76,10 @@ module _ (input : model.Shape) (item : Option model.Shape) where
       rw (fields-more done e) both
 
   -- those of all, once they are gone through
-  pub fields_put : (nodes : List Node) (field : List ℕ) (all done left : List Entry) (xs ys : List Doubt) → all ≡ done ++ left → left ≡ [] → ArePutDown nodes field (field_doubts (entries_view done) input item) xs ys → ArePutDown nodes field (field_doubts (entries_view all) input item) xs ys
-  fields_put nodes field all done left xs ys split none h =
+  pub fields_put : (table : List model.Shape) (field : List ℕ) (all done left : List Entry) (xs ys : List Doubt) → all ≡ done ++ left → left ≡ [] → ArePutDown table field (field_doubts (entries_view done) input item) xs ys → ArePutDown table field (field_doubts (entries_view all) input item) xs ys
+  fields_put table field all done left xs ys split none h =
       let whole : all ≡ done = split ∙ ap (λ es. done ++ es) none ∙ append-nil done in
-      subst (λ es. ArePutDown nodes field (field_doubts (entries_view es) input item) xs ys) (sym whole) h
+      subst (λ es. ArePutDown table field (field_doubts (entries_view es) input item) xs ys) (sym whole) h
 
   -- the shapes of the fields' values, where the names are in order
   fields_shown : (es : List Entry) → IsStrictlySortedBy string_cmp (keys_of es) → filled_fields (entries_view es) input item ≡ needed_by of_value es
@@ -97,12 +95,12 @@ module _ (input : model.Shape) (item : Option model.Shape) where
 
   -- ---- the whole template, of an input that some tree has
 
-  module _ (nodes : List Node) (t : template.Template) (field : List ℕ) (v : Vec Doubt Global) (live : true ≡ model.inhabited input) (put : ArePutDown nodes field (doubts t [] input item) [] v.items) where
+  module _ (table : List model.Shape) (t : template.Template) (field : List ℕ) (v : Vec Doubt Global) (live : true ≡ model.inhabited input) (put : ArePutDown table field (doubts t [] input item) [] v.items) where
     -- without a doubt it has its shape
-    pub without_doubt : (n : ℕ) → v.items ≡ [] → Shows nodes (filled_shape t input item) n → IsFilled (expansions nodes) field (template_shape t input item) (Ok n)
+    pub without_doubt : (n : ℕ) → v.items ≡ [] → Shows table (filled_shape t input item) n → IsFilled table field (template_shape t input item) (Ok n)
     without_doubt n none shows = rw (← live) (go (doubts t [] input item) put)
       where
-        go : (told : Told) → ArePutDown nodes field told [] v.items → IsFilled (expansions nodes) field (unless_doubts told (filled_shape t input item)) (Ok n)
+        go : (told : Told) → ArePutDown table field told [] v.items → IsFilled table field (unless_doubts told (filled_shape t input item)) (Ok n)
         go [] h = sym shows.same
         go (first ∷ told) h =
             let added : h.added ≡ [] = sym h.whole ∙ none in
@@ -110,44 +108,44 @@ module _ (input : model.Shape) (item : Option model.Shape) where
             absurd (cc)
 
     -- and else its doubts
-    pub with_doubts : 0 < length v.items → IsFilled (expansions nodes) field (template_shape t input item) (Err v)
+    pub with_doubts : 0 < length v.items → IsFilled table field (template_shape t input item) (Err v)
     with_doubts some = rw (← live) (go (doubts t [] input item) put)
       where
-        go : (told : Told) → ArePutDown nodes field told [] v.items → IsFilled (expansions nodes) field (unless_doubts told (filled_shape t input item)) (Err v)
-        go [] h = absurd (omega (arith, some, ap length (h.whole ∙ none_added nodes h.added h.same)))
+        go : (told : Told) → ArePutDown table field told [] v.items → IsFilled table field (unless_doubts told (filled_shape t input item)) (Err v)
+        go [] h = absurd (omega (arith, some, ap length (h.whole ∙ none_added table h.added h.same)))
         go (first ∷ told) h = rw h.whole h.same
 
     -- which speak of shapes of the table
-    pub doubts_within : 0 < length v.items → IsFlowIn (length nodes) (Err v)
-    doubts_within some = record { within = tt; some = some; below = subst (AreDoubtsBelow (length nodes)) (sym put.whole) put.below }
+    pub doubts_within : 0 < length v.items → IsFlowIn (length table) (Err v)
+    doubts_within some = record { within = tt; some = some; below = subst (AreDoubtsBelow (length table)) (sym put.whole) put.below }
 
 -- ---- what a template comes to, as a flow
 
-module _ (nodes : List Node) (field : List ℕ) where
-  faults-told : (told : Told) (ds : List Doubt) → map (told_at field) told ≡ map (named_fault (expansions nodes)) ds → flow.faults_of field told ≡ map (fault_of (expansions nodes)) ds
+module _ (table : List model.Shape) (field : List ℕ) where
+  faults-told : (told : Told) (ds : List Doubt) → map (told_at field) told ≡ map (named_fault table) ds → flow.faults_of field told ≡ map (fault_of table) ds
   faults-told [] [] same = refl
   faults-told [] (d ∷ ds) same = absurd (cc)
   faults-told (first ∷ told) [] same = absurd (cc)
   faults-told (first ∷ told) (d ∷ ds) same =
-      let own : told_at field first ≡ named_fault (expansions nodes) d = cc in
-      let behind : map (told_at field) told ≡ map (named_fault (expansions nodes)) ds = cc in
-      let fault : flow.doubt_fault field first.1 ≡ fault_of (expansions nodes) d = ap (λ (x : List ℕ × flow.FlowFault). x.1) own in
+      let own : told_at field first ≡ named_fault table d = cc in
+      let behind : map (told_at field) told ≡ map (named_fault table) ds = cc in
+      let fault : flow.doubt_fault field first.1 ≡ fault_of table d = ap (λ (x : List ℕ × flow.FlowFault). x.1) own in
       rw (fault, faults-told told ds behind) refl
 
   -- its shape goes on, and its doubts stop it
-  pub filled_flows : (answer : Result model.Shape Told) (given : Result ℕ (Vec Doubt Global)) → IsFilled (expansions nodes) field answer given → IsFlowIn (length nodes) given → FlowsTo nodes (template_flow field answer) given
+  pub filled_flows : (answer : Result model.Shape Told) (given : Result ℕ (Vec Doubt Global)) → IsFilled table field answer given → IsFlowIn (length table) given → FlowsTo table (template_flow field answer) given
   filled_flows (Ok s) (Ok n) is within = record { same = ap Ok is; within = within }
   filled_flows (Ok s) (Err v) is within = absurd is
   filled_flows (Err told) (Ok n) is within = absurd is
   filled_flows (Err told) (Err v) is within = record { same = ap Err (faults-told told v.items is); within = within }
 
   -- so where memory suffices
-  pub filled_where : {E : Type 0} (answer : Result model.Shape Told) (r : Result (Result ℕ (Vec Doubt Global)) E) → IfOk r (IsFilled (expansions nodes) field answer) → IfOk r (IsFlowIn (length nodes)) → IfOk r (FlowsTo nodes (template_flow field answer))
+  pub filled_where : {E : Type 0} (answer : Result model.Shape Told) (r : Result (Result ℕ (Vec Doubt Global)) E) → IfOk r (IsFilled table field answer) → IfOk r (IsFlowIn (length table)) → IfOk r (FlowsTo table (template_flow field answer))
   filled_where answer (Ok given) is within = filled_flows answer given is within
   filled_where answer (Err e) is within = tt
 
   -- so where memory suffices
-  pub flows_where_filled : {E : Type 0} (answer : Result model.Shape Told) (given : Result (Result ℕ (Vec Doubt Global)) E) → IfOk given (IsFilled (expansions nodes) field answer) → IfOk given (IsFlowIn (length nodes)) → IfOk given (FlowsTo nodes (template_flow field answer))
+  pub flows_where_filled : {E : Type 0} (answer : Result model.Shape Told) (given : Result (Result ℕ (Vec Doubt Global)) E) → IfOk given (IsFilled table field answer) → IfOk given (IsFlowIn (length table)) → IfOk given (FlowsTo table (template_flow field answer))
   flows_where_filled answer (Ok one) is within = filled_flows answer one is within
   flows_where_filled answer (Err e) is within = tt
 

@@ -4,11 +4,10 @@ use Rattle.asl_model.specs.Path.{Segment}
 use Rattle.asl_model.specs.Shape.{Shape, Never, inhabited}
 use Rattle.asl_model.specs.ShapeFlow as model
 use Rattle.asl_model.specs.ShapeFlow.{look, look_at, or_doubtful, found, where_found}
-use Rattle.asl_numbered.specs.declared.node.Node.{Node}
-use Rattle.asl_numbered.specs.Expansion.{expansions, shape_at, AreDistinct, IsNumberOf, Keeps}
+use Rattle.asl_numbered.specs.Expansion.{shape_at, AreDistinct, IsNumberOf, Keeps}
+use Rattle.asl_numbered.specs.Laws.{kept_shape, kept_within, own_number}
 use Rattle.asl_flow.specs.Doubts.{found_view, IsFoundIn}
 use Rattle.asl_flow.specs.declared.doubts.DoubtfulPath.{DoubtfulPath}
-use Rattle.asl_flow.proofs.Numbered.{own_number, still_within, still_shown}
 
 abbrev pub Answer : Type 0
 Answer = Result Shape model.DoubtfulPath
@@ -22,9 +21,9 @@ pub found_never : (path : List Segment) (s : Shape) → false ≡ inhabited s �
 found_never path s none = rw (← none) refl
 
 -- the number that is found is that of its shape
-pub found_own : (nodes : List Node) (r : Result ℕ DoubtfulPath) → AreDistinct (expansions nodes) → IsFoundIn (length nodes) r → IfOk r (λ n. IsNumberOf (expansions nodes) (shape_at (expansions nodes) n) n)
-found_own nodes (Ok n) distinct within = own_number nodes n distinct within.within
-found_own nodes (Err d) distinct within = tt
+pub found_own : (table : List Shape) (r : Result ℕ DoubtfulPath) → AreDistinct table → IsFoundIn (length table) r → IfOk r (λ n. IsNumberOf table (shape_at table n) n)
+found_own table (Ok n) distinct within = own_number table n distinct within.within
+found_own table (Err d) distinct within = tt
 
 -- nothing is refused in a shape that no tree has
 pub never_refused : (path : List Segment) (s : Shape) (at : ℕ) → inhabited s ≡ false → look path s ≡ Err at → ⊥
@@ -41,13 +40,13 @@ then_on (Err d) s t next is = absurd (cc)
 
 -- ---- a shape that stays as it is, in a table that has grown
 
-module _ (old new : List Node) (n : ℕ) (keeps : Keeps (expansions old) (expansions new)) (within : n < length old) where
-  pub kept_found : Ok (shape_at (expansions old) n) ≡ found_view (expansions new) (Ok n)
-  kept_found = ap Ok (sym (still_shown old new n keeps within))
+module _ (old new : List Shape) (n : ℕ) (keeps : Keeps old new) (within : n < length old) where
+  pub kept_found : Ok (shape_at old n) ≡ found_view new (Ok n)
+  kept_found = ap Ok (sym (kept_shape old new n keeps within))
 
   -- where another answer only lets it through
-  pub then_kept : (first : Answer) (r : Result ℕ DoubtfulPath) (m : ℕ) → first ≡ found_view (expansions new) r → r ≡ Ok m → where_found first (Ok (shape_at (expansions old) n)) ≡ found_view (expansions new) (Ok n)
+  pub then_kept : (first : Answer) (r : Result ℕ DoubtfulPath) (m : ℕ) → first ≡ found_view new r → r ≡ Ok m → where_found first (Ok (shape_at old n)) ≡ found_view new (Ok n)
   then_kept first r m told is = rw (told, is) kept_found
 
-  pub kept_within : IsFoundIn (length new) (Ok n)
-  kept_within = record { within = still_within old new n keeps within; below = tt }
+  pub still_found : IsFoundIn (length new) (Ok n)
+  still_found = record { within = kept_within old new n keeps within; below = tt }

@@ -3,14 +3,12 @@ use Rattle.std.proofs.Common.{◌≡◌, ℕ, suc, List, [], ◌∷◌, length, 
 use Rattle.asl_model.specs.Intrinsic.{Pieces}
 use Rattle.asl_model.specs.Shape as model
 use Rattle.asl_model.specs.ShapeFlow as flow
-use Rattle.asl_numbered.specs.declared.node.Node.{Node}
-use Rattle.asl_numbered.specs.Expansion.{shapes_at}
+use Rattle.asl_numbered.specs.Expansion.{shapes_at, Shows}
 use Rattle.asl_flow.specs.CallAnswer.{Answers}
-use Rattle.asl_flow.specs.Numbers.{Shows}
 
 -- what shows a shape answers where that is the one
-pub answered : (nodes : List Node) (s : model.Shape) (n : ℕ) (shape : Option model.Shape) → shape ≡ Some s → Shows nodes s n → Answers nodes shape (Some n)
-answered nodes s n shape is shows = record { same = is ∙ ap Some (sym shows.same); within = shows.within }
+pub answered : (table : List model.Shape) (s : model.Shape) (n : ℕ) (shape : Option model.Shape) → shape ≡ Some s → Shows table s n → Answers table shape (Some n)
+answered table s n shape is shows = record { same = is ∙ ap Some (sym shows.same); within = shows.within }
 
 -- how many shapes there are
 counted : (table : List model.Shape) (ns : List ℕ) → flow.how_many_shapes (shapes_at table ns) ≡ length ns

@@ -8,13 +8,11 @@ use Rattle.asl_model.specs.Shape.{Shape, Any, OfKinds, Simple, Arrays, ArraysOf,
 use Rattle.asl_model.specs.ShapeFlow.{narrow_under, place_at}
 use Rattle.asl_model.specs.ShapeOrder.{mention_of}
 use Rattle.asl_flow.specs.Changing.{with_field, with_place}
-use Rattle.asl_flow.specs.Numbers.{Shows}
 use Rattle.asl_flow.specs.Putting.{mentioned}
-use Rattle.asl_flow.proofs.Numbered.{still_shown}
 use Rattle.asl_flow.proofs.NumberedParts.{place_got, place_below, mention_got, field_below}
-use Rattle.asl_numbered.specs.declared.node.Node.{Node}
 use Rattle.asl_numbered.specs.declared.node.NodeField.{NodeField}
-use Rattle.asl_numbered.specs.Expansion.{expansions, shape_at, shapes_at, fields_at, numbers_in, AreBelow, Keeps}
+use Rattle.asl_numbered.specs.Expansion.{shape_at, shapes_at, fields_at, numbers_in, AreBelow, Keeps, Shows}
+use Rattle.asl_numbered.specs.Laws.{kept_shape}
 
 -- ---- a place that was looked up
 
@@ -36,24 +34,24 @@ module _ (k : String Global) (m : BTreeMap (String Global) NodeField) (r : Optio
 
 -- ---- the shape of what is narrowed
 
-module _ (go_on : Shape → Shape) (old now : List Node) (number n : ℕ) (within : number < length old) (keeps : Keeps (expansions old) (expansions now)) (simple : Simple) where
+module _ (go_on : Shape → Shape) (old now : List Shape) (number n : ℕ) (within : number < length old) (keeps : Keeps old now) (simple : Simple) where
   -- lists, once the place at an index is narrowed
-  pub narrowed_list : (i p : ℕ) (first : Shapes) (rest : Shape) (objects : Objects) → OfKinds simple (ArraysOf first rest) objects ≡ shape_at (expansions old) number → Some (shape_at (expansions old) p) ≡ place_at i first → Shows now (go_on (shape_at (expansions old) p)) n
-      → with_place i (shape_at (expansions now) n) (shape_at (expansions now) number) ≡ narrow_under go_on (Index i) (shape_at (expansions old) number)
+  pub narrowed_list : (i p : ℕ) (first : Shapes) (rest : Shape) (objects : Objects) → OfKinds simple (ArraysOf first rest) objects ≡ shape_at old number → Some (shape_at old p) ≡ place_at i first → Shows now (go_on (shape_at old p)) n
+      → with_place i (shape_at now n) (shape_at now number) ≡ narrow_under go_on (Index i) (shape_at old number)
   narrowed_list i p first rest objects list found shown =
-      rw (still_shown old now number keeps within, shown.same, ← list, ← found) refl
+      rw (kept_shape old now number keeps within, shown.same, ← list, ← found) refl
 
   -- objects, once the field that they mention is narrowed
-  pub narrowed_object : (name : List ℕ) (p : ℕ) (needed : Bool) (arrays : Arrays) (shapes : FieldShapes) (extra : Bool) → OfKinds simple arrays (ObjectsOf shapes extra) ≡ shape_at (expansions old) number → mention_of name shapes ≡ Some (needed, shape_at (expansions old) p) → Shows now (go_on (shape_at (expansions old) p)) n
-      → with_field name (shape_at (expansions now) n) (shape_at (expansions now) number) ≡ narrow_under go_on (Name name) (shape_at (expansions old) number)
+  pub narrowed_object : (name : List ℕ) (p : ℕ) (needed : Bool) (arrays : Arrays) (shapes : FieldShapes) (extra : Bool) → OfKinds simple arrays (ObjectsOf shapes extra) ≡ shape_at old number → mention_of name shapes ≡ Some (needed, shape_at old p) → Shows now (go_on (shape_at old p)) n
+      → with_field name (shape_at now n) (shape_at now number) ≡ narrow_under go_on (Name name) (shape_at old number)
   narrowed_object name p needed arrays shapes extra object found shown =
-      rw (still_shown old now number keeps within, shown.same, ← object, found) refl
+      rw (kept_shape old now number keeps within, shown.same, ← object, found) refl
 
   -- objects that may have the field, once that is mentioned
-  pub widened_object : (name : List ℕ) (arrays : Arrays) (shapes : FieldShapes) (extra : Bool) → OfKinds simple arrays (ObjectsOf shapes extra) ≡ shape_at (expansions old) number → extra ≡ true → mention_of name shapes ≡ None → Shows now Any n
-      → with_field name (shape_at (expansions now) n) (shape_at (expansions now) number) ≡ narrow_under go_on (Name name) (shape_at (expansions old) number)
+  pub widened_object : (name : List ℕ) (arrays : Arrays) (shapes : FieldShapes) (extra : Bool) → OfKinds simple arrays (ObjectsOf shapes extra) ≡ shape_at old number → extra ≡ true → mention_of name shapes ≡ None → Shows now Any n
+      → with_field name (shape_at now n) (shape_at now number) ≡ narrow_under go_on (Name name) (shape_at old number)
   widened_object name arrays shapes extra object more none shown =
-      rw (still_shown old now number keeps within, shown.same, ← object, none, more) refl
+      rw (kept_shape old now number keeps within, shown.same, ← object, none, more) refl
 
 -- lists without the place stay as they are
 pub same_list : (go_on : Shape → Shape) (i : ℕ) (simple : Simple) (first : Shapes) (rest : Shape) (objects : Objects) (s : Shape) → OfKinds simple (ArraysOf first rest) objects ≡ s → None ≡ place_at i first → ArrayShape first rest ≡ narrow_under go_on (Index i) s

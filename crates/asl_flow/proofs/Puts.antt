@@ -10,17 +10,15 @@ use Rattle.asl_model.specs.ShapeOrder.{mention_of, join}
 use Rattle.asl_flow.proofs.AloneParts.{alone_objects, alone_placed}
 use Rattle.asl_flow.specs.Changing.{arrays_with, objects_with, with_field, with_place}
 use Rattle.asl_flow.specs.Counting.{counted_on}
-use Rattle.asl_flow.specs.Numbers.{Shows}
 use Rattle.asl_flow.specs.Putting.{Answers, mentioned}
 use Rattle.asl_flow.specs.declared.putting.PutRefusal.{PutRefusal}
 use Rattle.asl_flow.specs.declared.putting.PutRefusal.TheVariants.{MayNotFit, OutOfMemory}
-use Rattle.asl_flow.proofs.Numbered.{still_shown, number_within, own_number}
 use Rattle.asl_flow.proofs.NumberedParts.{mention_got}
 use Rattle.asl_path.specs.View.{segment_view, segments_view}
 use Rattle.asl_path.specs.declared.Segment as code
-use Rattle.asl_numbered.specs.declared.node.Node.{Node}
 use Rattle.asl_numbered.specs.declared.node.NodeField.{NodeField}
-use Rattle.asl_numbered.specs.Expansion.{expansions, shape_at, fields_at, AreDistinct, IsNumberOf, Keeps}
+use Rattle.asl_numbered.specs.Expansion.{shape_at, fields_at, AreDistinct, IsNumberOf, Keeps, Shows}
+use Rattle.asl_numbered.specs.Laws.{kept_shape, own_number}
 
 -- ---- refusals counted on
 
@@ -40,15 +38,15 @@ counted_change at f (Ok s) t e =
 counted_change at f (Err j) t e = absurd (cc)
 
 -- a refusal in a part
-pub refused_below : (old new : List Node) (at : ℕ) (f : Shape → Shape) (whole r : Result Shape ℕ) (refusal : PutRefusal) → whole ≡ changed_by f r → Answers old (counted_on (at + 1) r) (Err refusal) → Answers new (counted_on at whole) (Err refusal)
+pub refused_below : (old new : List Shape) (at : ℕ) (f : Shape → Shape) (whole r : Result Shape ℕ) (refusal : PutRefusal) → whole ≡ changed_by f r → Answers old (counted_on (at + 1) r) (Err refusal) → Answers new (counted_on at whole) (Err refusal)
 refused_below old new at f whole r (MayNotFit k) is h = record { within = tt; shape = tt; refusal = ap (counted_on at) is ∙ counted_refusal at k f r h.refusal }
 refused_below old new at f whole r OutOfMemory is h = record { within = tt; shape = tt; refusal = tt }
 
 -- what was put in a part
-pub changed_below : (old new : List Node) (at : ℕ) (f : Shape → Shape) (whole r : Result Shape ℕ) (n m : ℕ) → whole ≡ changed_by f r → Answers old (counted_on (at + 1) r) (Ok n) → Shows new (f (shape_at (expansions old) n)) m → Answers new (counted_on at whole) (Ok m)
+pub changed_below : (old new : List Shape) (at : ℕ) (f : Shape → Shape) (whole r : Result Shape ℕ) (n m : ℕ) → whole ≡ changed_by f r → Answers old (counted_on (at + 1) r) (Ok n) → Shows new (f (shape_at old n)) m → Answers new (counted_on at whole) (Ok m)
 changed_below old new at f whole r n m is h shows = record {
   within = shows.within;
-  shape = ap (counted_on at) is ∙ counted_change at f r (shape_at (expansions old) n) h.shape ∙ ap Ok (sym shows.same);
+  shape = ap (counted_on at) is ∙ counted_change at f r (shape_at old n) h.shape ∙ ap Ok (sym shows.same);
   refusal = tt;
 }
 
@@ -76,13 +74,13 @@ put_at_index go_on p w s i part t is found =
     let placed : place_in i (arrays_alone s) ≡ Some t = sym is ∙ found in
     put_in_place_of go_on s i (arrays_alone s) t placed ∙ ap (λ arrays. changed_by (λ u. arrays_with i u arrays s) (go_on t)) (alone_placed s i t placed)
 
-pub answered_in_list : (old mid new : List Node) (at i : ℕ) (go_on : Shape → Result Shape ℕ) (p : List Segment) (w : Shape) (number : ℕ) (r : Option ℕ) (place n m : ℕ)
-    → number < length old → Keeps (expansions old) (expansions mid) → option_map (shape_at (expansions old)) r ≡ part_at (Index i) (shape_at (expansions old) number) → r ≡ Some place → Answers mid (counted_on (at + 1) (go_on (shape_at (expansions old) place))) (Ok n)
-    → Shows new (with_place i (shape_at (expansions mid) n) (shape_at (expansions mid) number)) m → Answers new (counted_on at (put_under go_on (Index i) p w (shape_at (expansions old) number))) (Ok m)
+pub answered_in_list : (old mid new : List Shape) (at i : ℕ) (go_on : Shape → Result Shape ℕ) (p : List Segment) (w : Shape) (number : ℕ) (r : Option ℕ) (place n m : ℕ)
+    → number < length old → Keeps old mid → option_map (shape_at old) r ≡ part_at (Index i) (shape_at old number) → r ≡ Some place → Answers mid (counted_on (at + 1) (go_on (shape_at old place))) (Ok n)
+    → Shows new (with_place i (shape_at mid n) (shape_at mid number)) m → Answers new (counted_on at (put_under go_on (Index i) p w (shape_at old number))) (Ok m)
 answered_in_list old mid new at i go_on p w number r place n m within keeps part found h shows =
-    let table = expansions old in
+    let table = old in
     let whole = put_at_index go_on p w (shape_at table number) i (option_map (shape_at table) r) (shape_at table place) part (ap (option_map (shape_at table)) found) in
-    let shown = subst (λ s. Shows new (with_place i (shape_at (expansions mid) n) s) m) (still_shown old mid number keeps within) shows in
+    let shown = subst (λ s. Shows new (with_place i (shape_at mid n) s) m) (kept_shape old mid number keeps within) shows in
     changed_below mid new at (λ u. with_place i u (shape_at table number)) _ (go_on (shape_at table place)) n m whole h shown
 
 -- ---- objects
@@ -95,22 +93,22 @@ put_at_name go_on p w s n shapes extra mention is found = rw (is, found, alone_o
     changed (Ok u) = refl
     changed (Err at) = refl
 
-pub refused_in_object : (new : List Node) (at : ℕ) (go_on : Shape → Result Shape ℕ) (p : List Segment) (w s : Shape) (table : List Shape) (k : String Global) (fields : BTreeMap (String Global) NodeField) (extra : Bool) (field : Option NodeField) (refusal : PutRefusal) (answer : Result ℕ PutRefusal)
+pub refused_in_object : (new : List Shape) (at : ℕ) (go_on : Shape → Result Shape ℕ) (p : List Segment) (w s : Shape) (table : List Shape) (k : String Global) (fields : BTreeMap (String Global) NodeField) (extra : Bool) (field : Option NodeField) (refusal : PutRefusal) (answer : Result ℕ PutRefusal)
     → objects_alone s ≡ ObjectsOf (fields_at table fields.entries) extra → field ≡ get_by (string_cmp k) fields → Answers new (counted_on (at + 1) (put_mentioned go_on extra p w (option_map (mentioned table) field))) (Err refusal) → answer ≡ Err refusal
     → Answers new (counted_on at (put_under go_on (Name (string_bytes k)) p w s)) answer
 refused_in_object new at go_on p w s table k fields extra field refusal answer is got h e =
     let whole = put_at_name go_on p w s (string_bytes k) (fields_at table fields.entries) extra (option_map (mentioned table) field) is (mention_got table k fields field got) in
     rw e (refused_below new new at (λ u. with_field (string_bytes k) u s) _ (put_mentioned go_on extra p w (option_map (mentioned table) field)) refusal whole h)
 
-pub answered_in_object : (old mid new : List Node) (at : ℕ) (go_on : Shape → Result Shape ℕ) (p : List Segment) (w : Shape) (number : ℕ) (k : String Global) (fields : BTreeMap (String Global) NodeField) (extra : Bool) (field : Option NodeField) (n m : ℕ)
-    → number < length old → Keeps (expansions old) (expansions mid) → objects_alone (shape_at (expansions old) number) ≡ ObjectsOf (fields_at (expansions old) fields.entries) extra → field ≡ get_by (string_cmp k) fields
-    → Answers mid (counted_on (at + 1) (put_mentioned go_on extra p w (option_map (mentioned (expansions old)) field))) (Ok n) → Shows new (with_field (string_bytes k) (shape_at (expansions mid) n) (shape_at (expansions mid) number)) m
-    → Answers new (counted_on at (put_under go_on (Name (string_bytes k)) p w (shape_at (expansions old) number))) (Ok m)
+pub answered_in_object : (old mid new : List Shape) (at : ℕ) (go_on : Shape → Result Shape ℕ) (p : List Segment) (w : Shape) (number : ℕ) (k : String Global) (fields : BTreeMap (String Global) NodeField) (extra : Bool) (field : Option NodeField) (n m : ℕ)
+    → number < length old → Keeps old mid → objects_alone (shape_at old number) ≡ ObjectsOf (fields_at old fields.entries) extra → field ≡ get_by (string_cmp k) fields
+    → Answers mid (counted_on (at + 1) (put_mentioned go_on extra p w (option_map (mentioned old) field))) (Ok n) → Shows new (with_field (string_bytes k) (shape_at mid n) (shape_at mid number)) m
+    → Answers new (counted_on at (put_under go_on (Name (string_bytes k)) p w (shape_at old number))) (Ok m)
 answered_in_object old mid new at go_on p w number k fields extra field n m within keeps is got h shows =
-    let table = expansions old in
+    let table = old in
     let s = shape_at table number in
     let whole = put_at_name go_on p w s (string_bytes k) (fields_at table fields.entries) extra (option_map (mentioned table) field) is (mention_got table k fields field got) in
-    let shown = subst (λ t. Shows new (with_field (string_bytes k) (shape_at (expansions mid) n) t) m) (still_shown old mid number keeps within) shows in
+    let shown = subst (λ t. Shows new (with_field (string_bytes k) (shape_at mid n) t) m) (kept_shape old mid number keeps within) shows in
     changed_below mid new at (λ u. with_field (string_bytes k) u s) _ (put_mentioned go_on extra p w (option_map (mentioned table) field)) n m whole h shown
 
 -- ---- where there is no tree
@@ -123,7 +121,7 @@ nothing_put (segment ∷ p) w s h = rw h refl
 -- ---- an optional field
 
 -- a refusal of the second, where the first is there
-pub second_refused : (old mid new : List Node) (at : ℕ) (first second : Result Shape ℕ) (n : ℕ) (refusal : PutRefusal) (answer : Result ℕ PutRefusal) → Answers old (counted_on at first) (Ok n) → Answers mid (counted_on at second) (Err refusal) → answer ≡ Err refusal → Answers new (counted_on at (join_results first second)) answer
+pub second_refused : (old mid new : List Shape) (at : ℕ) (first second : Result Shape ℕ) (n : ℕ) (refusal : PutRefusal) (answer : Result ℕ PutRefusal) → Answers old (counted_on at first) (Ok n) → Answers mid (counted_on at second) (Err refusal) → answer ≡ Err refusal → Answers new (counted_on at (join_results first second)) answer
 second_refused old mid new at (Ok s) (Ok t) n (MayNotFit k) answer h g e =
     let told = g.refusal in
     absurd (cc)
@@ -142,10 +140,10 @@ join_counted at (Ok a) (Err k) s t h g = absurd (cc)
 join_counted at (Err j) second s t h g = absurd (cc)
 
 -- both are joined
-pub both_joined : (old mid new : List Node) (at : ℕ) (first second : Result Shape ℕ) (n m k : ℕ) → Answers old (counted_on at first) (Ok n) → Answers mid (counted_on at second) (Ok m) → shape_at (expansions mid) n ≡ shape_at (expansions old) n → Shows new (join (shape_at (expansions mid) n) (shape_at (expansions mid) m)) k → Answers new (counted_on at (join_results first second)) (Ok k)
+pub both_joined : (old mid new : List Shape) (at : ℕ) (first second : Result Shape ℕ) (n m k : ℕ) → Answers old (counted_on at first) (Ok n) → Answers mid (counted_on at second) (Ok m) → shape_at mid n ≡ shape_at old n → Shows new (join (shape_at mid n) (shape_at mid m)) k → Answers new (counted_on at (join_results first second)) (Ok k)
 both_joined old mid new at first second n m k h g stays shows = record {
   within = shows.within;
-  shape = join_counted at first second (shape_at (expansions mid) n) (shape_at (expansions mid) m) (h.shape ∙ ap Ok (sym stays)) g.shape ∙ ap Ok (sym shows.same);
+  shape = join_counted at first second (shape_at mid n) (shape_at mid m) (h.shape ∙ ap Ok (sym stays)) g.shape ∙ ap Ok (sym shows.same);
   refusal = tt;
 }
 
@@ -154,25 +152,25 @@ both_joined old mid new at first second n m k h g stays shows = record {
 -- ---- answers
 
 -- a number at hand is the answer
-pub answered : (nodes : List Node) (at n : ℕ) (s : Shape) (r : Result Shape ℕ) → r ≡ Ok s → Shows nodes s n → Answers nodes (counted_on at r) (Ok n)
-answered nodes at n s r is shows = record { within = shows.within; shape = ap (counted_on at) is ∙ ap Ok (sym shows.same); refusal = tt }
+pub answered : (table : List Shape) (at n : ℕ) (s : Shape) (r : Result Shape ℕ) → r ≡ Ok s → Shows table s n → Answers table (counted_on at r) (Ok n)
+answered table at n s r is shows = record { within = shows.within; shape = ap (counted_on at) is ∙ ap Ok (sym shows.same); refusal = tt }
 
 -- its number
-pub own_answer : (nodes : List Node) (r : Result Shape ℕ) (answer : Result ℕ PutRefusal) → AreDistinct (expansions nodes) → Answers nodes r answer → IfOk answer (λ n. IsNumberOf (expansions nodes) (shape_at (expansions nodes) n) n)
-own_answer nodes r (Ok n) distinct h = own_number nodes n distinct h.within
-own_answer nodes r (Err refusal) distinct h = tt
+pub own_answer : (table : List Shape) (r : Result Shape ℕ) (answer : Result ℕ PutRefusal) → AreDistinct table → Answers table r answer → IfOk answer (λ n. IsNumberOf table (shape_at table n) n)
+own_answer table r (Ok n) distinct h = own_number table n distinct h.within
+own_answer table r (Err refusal) distinct h = tt
 
 -- in a table of the two shapes
-pub put_through : (one two three : List Node) (p : List Segment) (w s r : Shape) (number placed changed : ℕ) → IsNumberOf (expansions one) s number → Keeps (expansions one) (expansions two) → IsNumberOf (expansions two) w placed
-    → put p (shape_at (expansions two) placed) (shape_at (expansions two) number) ≡ Ok (shape_at (expansions three) changed) → r ≡ shape_at (expansions three) changed → put p w s ≡ Ok r
+pub put_through : (one two three : List Shape) (p : List Segment) (w s r : Shape) (number placed changed : ℕ) → IsNumberOf one s number → Keeps one two → IsNumberOf two w placed
+    → put p (shape_at two placed) (shape_at two number) ≡ Ok (shape_at three changed) → r ≡ shape_at three changed → put p w s ≡ Ok r
 put_through one two three p w s r number placed changed is keeps also h shown =
-    let own : shape_at (expansions two) number ≡ s = still_shown one two number keeps (number_within one s number is) ∙ is.same in
-    let its : shape_at (expansions two) placed ≡ w = also.same in
-    ap (λ t. put p t s) (sym its) ∙ ap (put p (shape_at (expansions two) placed)) (sym own) ∙ h ∙ ap Ok (sym shown)
+    let own : shape_at two number ≡ s = kept_shape one two number keeps (is.within) ∙ is.same in
+    let its : shape_at two placed ≡ w = also.same in
+    ap (λ t. put p t s) (sym its) ∙ ap (put p (shape_at two placed)) (sym own) ∙ h ∙ ap Ok (sym shown)
 
-pub refused_through : (one two : List Node) (p : List Segment) (w s : Shape) (number placed at : ℕ) → IsNumberOf (expansions one) s number → Keeps (expansions one) (expansions two) → IsNumberOf (expansions two) w placed
-    → put p (shape_at (expansions two) placed) (shape_at (expansions two) number) ≡ Err at → put p w s ≡ Err at
+pub refused_through : (one two : List Shape) (p : List Segment) (w s : Shape) (number placed at : ℕ) → IsNumberOf one s number → Keeps one two → IsNumberOf two w placed
+    → put p (shape_at two placed) (shape_at two number) ≡ Err at → put p w s ≡ Err at
 refused_through one two p w s number placed at is keeps also h =
-    let own : shape_at (expansions two) number ≡ s = still_shown one two number keeps (number_within one s number is) ∙ is.same in
-    let its : shape_at (expansions two) placed ≡ w = also.same in
-    ap (λ t. put p t s) (sym its) ∙ ap (put p (shape_at (expansions two) placed)) (sym own) ∙ h
+    let own : shape_at two number ≡ s = kept_shape one two number keeps (is.within) ∙ is.same in
+    let its : shape_at two placed ≡ w = also.same in
+    ap (λ t. put p t s) (sym its) ∙ ap (put p (shape_at two placed)) (sym own) ∙ h

@@ -6,8 +6,6 @@ use Rattle.asl_model.specs.Shape.{Shape}
 use Rattle.asl_model.specs.ShapeFlow as model
 use Rattle.asl_tree.specs.declared.Tree.{Tree}
 use Rattle.asl_tree.specs.View.{view}
-use Rattle.asl_numbered.specs.declared.node.Node.{Node}
-use Rattle.asl_numbered.specs.Expansion.{expansions}
 use Rattle.asl_flow.specs.Counterexamples.{IsShownBy}
 use Rattle.asl_flow.specs.Doubts.{doubtful_view, cause_at, fault_of, flow_view, AreDoubtsBelow, IsCauseBelow, IsCauseIn, IsFlowIn}
 use Rattle.asl_flow.specs.Leaving.{first_fault, IsStopped}
@@ -32,17 +30,17 @@ first-has P (first ∷ xs) x each is =
 
 -- ---- the first of the doubts that were put down
 
-module _ (nodes : List Node) (d : Doubt) where
+module _ (table : List Shape) (d : Doubt) where
   -- it speaks of a shape of the table
-  first-below : (v : Vec Doubt Global) → IsFlowIn (length nodes) (Err v) → d ≡ get_or v.items 0 d → IsCauseBelow (length nodes) d.cause
+  first-below : (v : Vec Doubt Global) → IsFlowIn (length table) (Err v) → d ≡ get_or v.items 0 d → IsCauseBelow (length table) d.cause
   first-below v within is = go v.items within.some is within.below
     where
-      go : (ds : List Doubt) → 0 < length ds → d ≡ get_or ds 0 d → AreDoubtsBelow (length nodes) ds → IsCauseBelow (length nodes) d.cause
+      go : (ds : List Doubt) → 0 < length ds → d ≡ get_or ds 0 d → AreDoubtsBelow (length table) ds → IsCauseBelow (length table) d.cause
       go [] some at below = absurd (omega (arith, some))
-      go (first ∷ ds) some at below = subst (λ (x : Doubt). IsCauseBelow (length nodes) x.cause) (sym at) below.0
+      go (first ∷ ds) some at below = subst (λ (x : Doubt). IsCauseBelow (length table) x.cause) (sym at) below.0
 
   -- and its path, if it is of one that is refused, is doubtful there
-  doubtful-there : (field : List ℕ) (cause : Cause) → IsCauseBelow (length nodes) cause → IsFaultOfRefused (cause_at (expansions nodes) field cause) → IsCauseIn nodes cause
+  doubtful-there : (field : List ℕ) (cause : Cause) → IsCauseBelow (length table) cause → IsFaultOfRefused (cause_at table field cause) → IsCauseIn table cause
   doubtful-there field (MayBeMissing p) below refused = (below, refused)
   doubtful-there field MayFail below refused = tt
   doubtful-there field MayNotFit below refused = tt
@@ -55,36 +53,36 @@ same-doubted answer other (refusal.MayBeMissing name t) same h = (h.0, same ∙ 
 same-doubted answer other (refusal.MayFail name) same h = same ∙ h
 same-doubted answer other refusal.OutOfMemory same h = tt
 
-module _ (nodes : List Node) (field : List ℕ) (answer : Result Shape Told) (v : Vec Doubt Global) (d : Doubt) (filled : IsFilled (expansions nodes) field answer (Err v)) (within : IsFlowIn (length nodes) (Err v)) (is : d ≡ get_or v.items 0 d) where
+module _ (table : List Shape) (field : List ℕ) (answer : Result Shape Told) (v : Vec Doubt Global) (d : Doubt) (filled : IsFilled table field answer (Err v)) (within : IsFlowIn (length table) (Err v)) (is : d ≡ get_or v.items 0 d) where
   -- the first doubt of the definition is the first one that was put down
-  first-one : (one : List ℕ × model.Doubt) × (first_doubt answer ≡ Some one) × (told_at field one ≡ named_fault (expansions nodes) d)
+  first-one : (one : List ℕ × model.Doubt) × (first_doubt answer ≡ Some one) × (told_at field one ≡ named_fault table d)
   first-one = go answer filled
     where
-      first : (told : Told) (ds : List Doubt) → map (told_at field) told ≡ map (named_fault (expansions nodes)) ds → 0 < length ds → d ≡ get_or ds 0 d → (one : List ℕ × model.Doubt) × (slice_get told 0 ≡ Some one) × (told_at field one ≡ named_fault (expansions nodes) d)
+      first : (told : Told) (ds : List Doubt) → map (told_at field) told ≡ map (named_fault table) ds → 0 < length ds → d ≡ get_or ds 0 d → (one : List ℕ × model.Doubt) × (slice_get told 0 ≡ Some one) × (told_at field one ≡ named_fault table d)
       first told [] same some at = absurd (omega (arith, some))
       first [] (x ∷ ds) same some at = absurd (cc)
       first (one ∷ told) (x ∷ ds) same some at =
-          let own : told_at field one ≡ named_fault (expansions nodes) x = cc in
-          (one, refl, own ∙ ap (named_fault (expansions nodes)) (sym at))
+          let own : told_at field one ≡ named_fault table x = cc in
+          (one, refl, own ∙ ap (named_fault table) (sym at))
 
-      go : (r : Result Shape Told) → IsFilled (expansions nodes) field r (Err v) → (one : List ℕ × model.Doubt) × (first_doubt r ≡ Some one) × (told_at field one ≡ named_fault (expansions nodes) d)
+      go : (r : Result Shape Told) → IsFilled table field r (Err v) → (one : List ℕ × model.Doubt) × (first_doubt r ≡ Some one) × (told_at field one ≡ named_fault table d)
       go (Ok s) h = absurd h
       go (Err told) h = first told v.items h within.some is
 
   -- the path of which it is, if it is of one, is doubtful in the table
-  pub template_cause : IfErr answer AreOfRefused → IsCauseIn nodes d.cause
+  pub template_cause : IfErr answer AreOfRefused → IsCauseIn table d.cause
   template_cause refused =
       let one = first-one in
       let own : IsOfRefused one.0.1 = go answer refused one.0 one.1 in
-      let same : model.doubt_fault field one.0.1 ≡ fault_of (expansions nodes) d = ap (λ (x : List ℕ × model.FlowFault). x.1) one.2 in
-      doubtful-there nodes d d.field.now d.cause (first-below nodes d v within is) (subst IsFaultOfRefused same (fault_refused field one.0.1 own))
+      let same : model.doubt_fault field one.0.1 ≡ fault_of table d = ap (λ (x : List ℕ × model.FlowFault). x.1) one.2 in
+      doubtful-there table d d.field.now d.cause (first-below table d v within is) (subst IsFaultOfRefused same (fault_refused field one.0.1 own))
     where
       go : (r : Result Shape Told) → IfErr r AreOfRefused → (one : List ℕ × model.Doubt) → first_doubt r ≡ Some one → IsOfRefused one.1
       go (Ok s) each one at = absurd (cc)
       go (Err told) each one at = first-has (λ (x : List ℕ × model.Doubt). IsOfRefused x.1) told one each at
 
   -- and what is told of it is told of the template
-  pub template_told : (told : TemplateShapeRefusal) → ((other : List ℕ) (one : List ℕ × model.Doubt) → told_at other one ≡ named_fault (expansions nodes) d → IsDoubted (Err (one ∷ [])) told) → IsDoubted answer told
+  pub template_told : (told : TemplateShapeRefusal) → ((other : List ℕ) (one : List ℕ × model.Doubt) → told_at other one ≡ named_fault table d → IsDoubted (Err (one ∷ [])) told) → IsDoubted answer told
   template_told told tells =
       let one = first-one in
       same-doubted answer (Err (one.0 ∷ [])) told one.1 (tells field one.0 one.2)
@@ -136,22 +134,22 @@ same-stopped flow other (fault.MayFail field) same h = same ∙ h
 same-stopped flow other (fault.MayNotFit field) same h = same ∙ h
 same-stopped flow other fault.OutOfMemory same h = tt
 
-module _ (nodes : List Node) (flow : model.Flow) (v : Vec Doubt Global) (d : Doubt) (stopped : flow ≡ flow_view (expansions nodes) (Err v)) (within : IsFlowIn (length nodes) (Err v)) (is : d ≡ get_or v.items 0 d) where
-  first-stops : first_fault flow ≡ Some (fault_of (expansions nodes) d)
+module _ (table : List Shape) (flow : model.Flow) (v : Vec Doubt Global) (d : Doubt) (stopped : flow ≡ flow_view table (Err v)) (within : IsFlowIn (length table) (Err v)) (is : d ≡ get_or v.items 0 d) where
+  first-stops : first_fault flow ≡ Some (fault_of table d)
   first-stops = ap first_fault stopped ∙ go v.items within.some is
     where
-      go : (ds : List Doubt) → 0 < length ds → d ≡ get_or ds 0 d → slice_get (map (fault_of (expansions nodes)) ds) 0 ≡ Some (fault_of (expansions nodes) d)
+      go : (ds : List Doubt) → 0 < length ds → d ≡ get_or ds 0 d → slice_get (map (fault_of table) ds) 0 ≡ Some (fault_of table d)
       go [] some at = absurd (omega (arith, some))
-      go (x ∷ ds) some at = ap (λ y. Some (fault_of (expansions nodes) y)) (sym at)
+      go (x ∷ ds) some at = ap (λ y. Some (fault_of table y)) (sym at)
 
   -- its path, if it is of one, is doubtful in the table
-  pub way_cause : IfErr flow AreFaultsOfRefused → IsCauseIn nodes d.cause
-  way_cause refused = doubtful-there nodes d d.field.now d.cause (first-below nodes d v within is) (go flow refused first-stops)
+  pub way_cause : IfErr flow AreFaultsOfRefused → IsCauseIn table d.cause
+  way_cause refused = doubtful-there table d d.field.now d.cause (first-below table d v within is) (go flow refused first-stops)
     where
-      go : (f : model.Flow) → IfErr f AreFaultsOfRefused → first_fault f ≡ Some (fault_of (expansions nodes) d) → IsFaultOfRefused (fault_of (expansions nodes) d)
+      go : (f : model.Flow) → IfErr f AreFaultsOfRefused → first_fault f ≡ Some (fault_of table d) → IsFaultOfRefused (fault_of table d)
       go (Ok s) each at = absurd (cc)
-      go (Err faults) each at = first-has IsFaultOfRefused faults (fault_of (expansions nodes) d) each at
+      go (Err faults) each at = first-has IsFaultOfRefused faults (fault_of table d) each at
 
   -- and what is told of it is told of the way
-  pub way_told : (told : FlowFault) → IsStopped (Err (fault_of (expansions nodes) d ∷ [])) told → IsStopped flow told
-  way_told told h = same-stopped flow (Err (fault_of (expansions nodes) d ∷ [])) told first-stops h
+  pub way_told : (told : FlowFault) → IsStopped (Err (fault_of table d ∷ [])) told → IsStopped flow told
+  way_told told h = same-stopped flow (Err (fault_of table d ∷ [])) told first-stops h

@@ -1,4 +1,4 @@
--- Fields and places of nodes of which one is replaced.
+-- Fields and places of which one is replaced.
 use Rattle.std.proofs.Common.{◌≡◌, ◌<◌, ◌≤◌, ℕ, zero, suc, List, [], ◌∷◌, ◌++◌, Bool, true, false, IsTrue, bytes_eq, String, Global, Vec, Ordering, Less, Equal, Greater, string_bytes, string_cmp, nat_cmp, length, slice_set, refl, sym, ap, ◌∙◌, subst, arith}
 use Rattle.std.proofs.lemmas.Map.Text.{is_eq-slice_cmp}
 use Rattle.std.proofs.lemmas.Slice.Eq.{bytes_eq-Decides}

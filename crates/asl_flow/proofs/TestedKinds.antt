@@ -7,10 +7,8 @@ use Rattle.asl_model.specs.ShapeFlow.{DoubtfulPath, look_at, or_doubtful, put, b
 use Rattle.asl_model.specs.Test.{ValueKind, IsOfKind}
 use Rattle.asl_flow.proofs.DoubtfulPaths.{put_never}
 use Rattle.asl_flow.proofs.FoundPaths.{found_there, found_never}
-use Rattle.asl_flow.specs.Numbers.{Shows}
-use Rattle.asl_flow.proofs.Numbered.{number_shows}
-use Rattle.asl_numbered.specs.declared.node.Node.{Node}
-use Rattle.asl_numbered.specs.Expansion.{expansions, IsNumberOf}
+use Rattle.asl_numbered.specs.Expansion.{IsNumberOf, Shows}
+use Rattle.asl_numbered.specs.Laws.{number_shows}
 use Rattle.asl_tree.specs.declared.OutOfMemory.{OutOfMemory}
 use Rattle.std.specs.Prelude.{IfOk}
 
@@ -39,6 +37,6 @@ module _ (path : List Segment) (kind : ValueKind) (wanted : Bool) (s : Shape) wh
   doubt_tested d live is = rw (found_there path s (Err d) live is) refl
 
 -- the number of a shape shows an equal one
-pub put_shown : (nodes : List Node) (s t : Shape) (r : Result ℕ OutOfMemory) → s ≡ t → IfOk r (IsNumberOf (expansions nodes) s) → IfOk r (Shows nodes t)
-put_shown nodes s t (Ok n) e h = rw e at (number_shows nodes s n h)
-put_shown nodes s t (Err refusal) e h = tt
+pub put_shown : (table : List Shape) (s t : Shape) (r : Result ℕ OutOfMemory) → s ≡ t → IfOk r (IsNumberOf table s) → IfOk r (Shows table t)
+put_shown table s t (Ok n) e h = rw e at (number_shows table s n h)
+put_shown table s t (Err refusal) e h = tt

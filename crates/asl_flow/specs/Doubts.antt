@@ -4,8 +4,7 @@ use Rattle.std.specs.List.{AllByRecursion}
 use Rattle.std.specs.declared.alloc.Global.{Global}
 use Rattle.asl_model.specs.Shape.{Shape}
 use Rattle.asl_model.specs.ShapeFlow as model
-use Rattle.asl_numbered.specs.declared.node.Node.{Node}
-use Rattle.asl_numbered.specs.Expansion.{expansions, shape_at}
+use Rattle.asl_numbered.specs.Expansion.{shape_at}
 use Rattle.asl_flow.specs.declared.doubts.DoubtfulPath.{DoubtfulPath}
 use Rattle.asl_flow.specs.declared.doubts.Cause.{Cause}
 use Rattle.asl_flow.specs.declared.doubts.Cause.TheVariants.{MayBeMissing, MayFail, MayNotFit}
@@ -57,8 +56,8 @@ pub record IsFlowIn (size : ℕ) (answer : Result ℕ (Vec Doubt Global)) : Type
   pub below : IfErr answer (λ doubts. AreDoubtsBelow size doubts.items)
 
 -- where a cause speaks of a path, that is doubtful in a shape of the table
-abbrev pub IsCauseIn : List Node → Cause → Type 0
-IsCauseIn nodes (MayBeMissing d) =
-    (d.shape < length nodes) × IsErr (model.look d.path.now (shape_at (expansions nodes) d.shape))
-IsCauseIn nodes MayFail = Unit {0}
-IsCauseIn nodes MayNotFit = Unit {0}
+abbrev pub IsCauseIn : List Shape → Cause → Type 0
+IsCauseIn table (MayBeMissing d) =
+    (d.shape < length table) × IsErr (model.look d.path.now (shape_at table d.shape))
+IsCauseIn table MayFail = Unit {0}
+IsCauseIn table MayNotFit = Unit {0}

@@ -10,8 +10,7 @@ use Rattle.asl_flow.specs.declared.leaving.FlowFault.{FlowFault}
 use Rattle.asl_flow.specs.declared.leaving.FlowFault.TheVariants.{MayBeMissing, MayFail, MayNotFit, OutOfMemory}
 use Rattle.asl_flow.specs.declared.leaving.Leaving.{Leaving}
 use Rattle.asl_flow.specs.declared.leaving.Leaving.TheVariants.{WithResult, WithInput, Nothing}
-use Rattle.asl_numbered.specs.declared.node.Node.{Node}
-use Rattle.asl_numbered.specs.Expansion.{expansions}
+use Rattle.asl_model.specs.Shape.{Shape}
 
 -- what leaves a state
 abbrev pub leaving_of : Leaving → model.Leaving
@@ -20,9 +19,9 @@ leaving_of WithInput = model.WithInput
 leaving_of Nothing = model.Nothing
 
 -- the answer is what the way comes to, or the doubts that stop it, and speaks of shapes of the table
-pub record FlowsTo (nodes : List Node) (flow : model.Flow) (answer : Result ℕ (Vec Doubt Global)) : Type 0 where
-  pub same : flow ≡ flow_view (expansions nodes) answer
-  pub within : IsFlowIn (length nodes) answer
+pub record FlowsTo (table : List Shape) (flow : model.Flow) (answer : Result ℕ (Vec Doubt Global)) : Type 0 where
+  pub same : flow ≡ flow_view table answer
+  pub within : IsFlowIn (length table) answer
 
 -- the first of the faults that stop a shape; None: it comes through
 abbrev pub first_fault : model.Flow → Option model.FlowFault

@@ -3,9 +3,8 @@ use Rattle.std.specs.Prelude.{◌≡◌, ◌<◌, ℕ, List, length, Bool, Resul
 use Rattle.asl_model.specs.Shape as model
 use Rattle.asl_flow.specs.declared.putting.PutRefusal.{PutRefusal}
 use Rattle.asl_flow.specs.declared.putting.PutRefusal.TheVariants.{MayNotFit, OutOfMemory}
-use Rattle.asl_numbered.specs.declared.node.Node.{Node}
 use Rattle.asl_numbered.specs.declared.node.NodeField.{NodeField}
-use Rattle.asl_numbered.specs.Expansion.{expansions, shape_at}
+use Rattle.asl_numbered.specs.Expansion.{shape_at}
 
 -- the mention of a field: whether it is needed, and its shape
 abbrev pub mentioned : List model.Shape → NodeField → Bool × model.Shape
@@ -17,7 +16,7 @@ IsRefusal (MayNotFit at) r = r ≡ Err at
 IsRefusal OutOfMemory r = Unit {0}
 
 -- the answer is the number of that shape, or that refusal, unless memory was refused
-pub record Answers (nodes : List Node) (r : Result model.Shape ℕ) (answer : Result ℕ PutRefusal) : Type 0 where
-  pub within : IfOk answer (λ n. n < length nodes)
-  pub shape : IfOk answer (λ n. r ≡ Ok (shape_at (expansions nodes) n))
+pub record Answers (table : List model.Shape) (r : Result model.Shape ℕ) (answer : Result ℕ PutRefusal) : Type 0 where
+  pub within : IfOk answer (λ n. n < length table)
+  pub shape : IfOk answer (λ n. r ≡ Ok (shape_at table n))
   pub refusal : IfErr answer (λ refusal. IsRefusal refusal r)

@@ -6,8 +6,7 @@ use Rattle.asl_model.specs.ShapeFlow as flow
 use Rattle.asl_flow.specs.Doubts.{cause_at, IsCauseBelow}
 use Rattle.asl_flow.specs.declared.doubts.Cause.{Cause}
 use Rattle.asl_flow.specs.declared.references.Sources.{Sources}
-use Rattle.asl_numbered.specs.declared.node.Node.{Node}
-use Rattle.asl_numbered.specs.Expansion.{expansions, shape_at}
+use Rattle.asl_numbered.specs.Expansion.{shape_at}
 
 -- the shape of the input
 abbrev pub input_of : List Shape → Sources → Shape
@@ -33,7 +32,7 @@ part_view table field (Ok n) = Ok (shape_at table n)
 part_view table field (Err cause) = Err (cause_at table field cause)
 
 -- the answer is that part, at any field, and speaks of shapes of the table
-pub record IsPart (nodes : List Node) (part : Result Shape flow.Doubt) (answer : Result ℕ Cause) : Type 0 where
-  pub same : (field : FieldName) → at_field field part ≡ part_view (expansions nodes) field answer
-  pub within : IfOk answer (λ n. n < length nodes)
-  pub below : IfErr answer (IsCauseBelow (length nodes))
+pub record IsPart (table : List Shape) (part : Result Shape flow.Doubt) (answer : Result ℕ Cause) : Type 0 where
+  pub same : (field : FieldName) → at_field field part ≡ part_view table field answer
+  pub within : IfOk answer (λ n. n < length table)
+  pub below : IfErr answer (IsCauseBelow (length table))

@@ -11,8 +11,7 @@ use Rattle.asl_flow.specs.Doubts.{fault_of, AreDoubtsBelow}
 use Rattle.asl_flow.specs.declared.doubts.Doubt.{Doubt}
 use Rattle.asl_flow.specs.declared.templates.TemplateShapeRefusal.{TemplateShapeRefusal}
 use Rattle.asl_flow.specs.declared.templates.TemplateShapeRefusal.TheVariants.{MayBeMissing, MayFail, OutOfMemory}
-use Rattle.asl_numbered.specs.declared.node.Node.{Node}
-use Rattle.asl_numbered.specs.Expansion.{expansions, shape_at}
+use Rattle.asl_numbered.specs.Expansion.{shape_at}
 
 -- a doubt with its name, as a fault at that field
 abbrev pub told_at : FieldName → FieldName × model.Doubt → FieldName × model.FlowFault
@@ -27,12 +26,12 @@ abbrev pub AreDoubts : List Shape → FieldName → List (FieldName × model.Dou
 AreDoubts table field told doubts = map (told_at field) told ≡ map (named_fault table) doubts
 
 -- those doubts were put down behind the others, and speak of shapes of the table
-pub record ArePutDown (nodes : List Node) (field : FieldName) (told : List (FieldName × model.Doubt))
+pub record ArePutDown (table : List Shape) (field : FieldName) (told : List (FieldName × model.Doubt))
     (old new : List Doubt) : Type 0 where
   pub added : List Doubt
   pub whole : new ≡ old ++ added
-  pub same : AreDoubts (expansions nodes) field told added
-  pub below : AreDoubtsBelow (length nodes) added
+  pub same : AreDoubts table field told added
+  pub below : AreDoubtsBelow (length table) added
 
 -- the answer is that shape, or those doubts
 abbrev pub IsFilled : List Shape → FieldName → Result Shape (List (FieldName × model.Doubt))

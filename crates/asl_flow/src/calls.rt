@@ -7,7 +7,7 @@ ghost use Rattle.asl_intrinsic.specs.View as calls;
 ghost use Rattle.asl_model.specs.Intrinsic.{literal_pieces};
 ghost use Rattle.asl_model.specs.Shape as model;
 ghost use Rattle.asl_model.specs.ShapeFlow as flow;
-ghost use Rattle.asl_numbered.specs.Expansion.{expansions, shape_at, shapes_at, AreBelow, Keeps};
+ghost use Rattle.asl_numbered.specs.Expansion.{shape_at, shapes_at, AreBelow, Keeps};
 
 use crate::composing::closed_list;
 use crate::kinds::{arrays_alone, kinds_of, some_array_or_object};
@@ -29,10 +29,9 @@ pub(crate) fn call_shape(
 ) -> Result<Option<usize>, OutOfMemory>
     requires within { IsWithin (length shapes.old) sources }
     ensures answers { IfOk result
-        (Answers shapes.new
-        (flow.call_shape (calls.view call.now) (input_of (expansions shapes.old) sources)
-        (item_of (expansions shapes.old) sources))) }
-    ensures keeps { Keeps (expansions shapes.old) (expansions shapes.new) }
+        (Answers shapes.new (flow.call_shape (calls.view call.now) (input_of shapes.old sources)
+        (item_of shapes.old sources))) }
+    ensures keeps { Keeps shapes.old shapes.new }
 {
     match call {
         Call::Array(arguments) => match argument_shapes(alloc, shapes, arguments, sources)? {
@@ -60,10 +59,9 @@ fn argument_shapes(
 ) -> Result<Option<Vec<usize>>, OutOfMemory>
     requires within { IsWithin (length shapes.old) sources }
     ensures answers { IfOk result
-        (AnswersAll shapes.new
-        (flow.argument_shapes (arguments_view arguments.now)
-        (input_of (expansions shapes.old) sources) (item_of (expansions shapes.old) sources))) }
-    ensures keeps { Keeps (expansions shapes.old) (expansions shapes.new) }
+        (AnswersAll shapes.new (flow.argument_shapes (arguments_view arguments.now)
+        (input_of shapes.old sources) (item_of shapes.old sources))) }
+    ensures keeps { Keeps shapes.old shapes.new }
 {
     let mut numbers = Vec::with_capacity(alloc, arguments.len())?;
     for argument in arguments {
@@ -86,10 +84,9 @@ fn argument_shape(
 ) -> Result<Option<usize>, OutOfMemory>
     requires within { IsWithin (length shapes.old) sources }
     ensures answers { IfOk result
-        (Answers shapes.new
-        (flow.argument_shape (argument_view argument.now)
-        (input_of (expansions shapes.old) sources) (item_of (expansions shapes.old) sources))) }
-    ensures keeps { Keeps (expansions shapes.old) (expansions shapes.new) }
+        (Answers shapes.new (flow.argument_shape (argument_view argument.now)
+        (input_of shapes.old sources) (item_of shapes.old sources))) }
+    ensures keeps { Keeps shapes.old shapes.new }
 {
     match argument {
         Arg::Null => Ok(Some(put_node(shapes, Node::Null)?)),
@@ -108,24 +105,22 @@ fn argument_shape(
 fn array_shape(shapes: &mut Shapes, arguments: Vec<usize>) -> Result<Option<usize>, OutOfMemory>
     requires arguments { AreBelow (length shapes.old) arguments.items }
     ensures answers { IfOk result
-        (Answers shapes.new
-        (flow.array_of (Some (shapes_at (expansions shapes.old) arguments.items)))) }
-    ensures keeps { Keeps (expansions shapes.old) (expansions shapes.new) }
+        (Answers shapes.new (flow.array_of (Some (shapes_at shapes.old arguments.items)))) }
+    ensures keeps { Keeps shapes.old shapes.new }
 {
     Ok(Some(closed_list(shapes, arguments)?))
 }
 
 /// `States.ArrayLength`: the length of one argument, which is a list or never comes.
-#[tactic(auto, using(asl_numbered::proofs::Expansions::simple_refers, asl_numbered::proofs::Expansions::keeps_same))]
+#[tactic(auto, using(asl_numbered::proofs::Expansions::simple_refers, asl_numbered::specs::Laws::keeps_same))]
 fn array_length_shape(
     shapes: &mut Shapes,
     arguments: &[usize],
 ) -> Result<Option<usize>, OutOfMemory>
     requires arguments { AreBelow (length shapes.old) arguments.now }
     ensures answers { IfOk result
-        (Answers shapes.new
-        (flow.array_length_of (Some (shapes_at (expansions shapes.old) arguments.now)))) }
-    ensures keeps { Keeps (expansions shapes.old) (expansions shapes.new) }
+        (Answers shapes.new (flow.array_length_of (Some (shapes_at shapes.old arguments.now)))) }
+    ensures keeps { Keeps shapes.old shapes.new }
 {
     let [argument] = arguments else {
         return Ok(None);
@@ -141,14 +136,14 @@ fn array_length_shape(
 fn is_list_or_never(shapes: &Shapes, number: usize) -> bool
     requires number { number < length shapes.now }
     ensures { result
-        ≡ (not (model.inhabited (shape_at (expansions shapes.now) number))
-        || flow.is_array_shape (shape_at (expansions shapes.now) number)) }
+        ≡ (not (model.inhabited (shape_at shapes.now number))
+        || flow.is_array_shape (shape_at shapes.now number)) }
 {
     !is_inhabited(shapes, number) || arrays_alone(shapes, number).is_some()
 }
 
 /// `States.Format`: a text and what fills its holes.
-#[tactic(auto, using(asl_numbered::proofs::Expansions::simple_refers, asl_numbered::proofs::Expansions::keeps_same, crate::proofs::FunctionShapes::answered))]
+#[tactic(auto, using(asl_numbered::proofs::Expansions::simple_refers, asl_numbered::specs::Laws::keeps_same, crate::proofs::FunctionShapes::answered))]
 fn format_shape(
     shapes: &mut Shapes,
     arguments: &[Arg],
@@ -156,10 +151,9 @@ fn format_shape(
 ) -> Result<Option<usize>, OutOfMemory>
     requires numbers { AreBelow (length shapes.old) numbers.now }
     ensures answers { IfOk result
-        (Answers shapes.new
-        (flow.format_of (literal_pieces (arguments_view arguments.now))
-        (Some (shapes_at (expansions shapes.old) numbers.now)))) }
-    ensures keeps { Keeps (expansions shapes.old) (expansions shapes.new) }
+        (Answers shapes.new (flow.format_of (literal_pieces (arguments_view arguments.now))
+        (Some (shapes_at shapes.old numbers.now)))) }
+    ensures keeps { Keeps shapes.old shapes.new }
 {
     let [first, others @ ..] = numbers else {
         return Ok(None);
@@ -177,7 +171,7 @@ fn fits_holes(shapes: &Shapes, arguments: &[Arg], first: usize, others: &[usize]
     requires first { first < length shapes.now }
     ensures { result
         ≡ flow.fits_holes (literal_pieces (arguments_view arguments.now))
-        (shape_at (expansions shapes.now) first) (shapes_at (expansions shapes.now) others.now) }
+        (shape_at shapes.now first) (shapes_at shapes.now others.now) }
 {
     match holes_in(arguments) {
         Some(holes) => holes == others.len(),
@@ -199,7 +193,7 @@ fn holes_in(arguments: &[Arg]) -> Option<usize>
 /// Whether each of the shapes of the numbers can be put in a text.
 fn all_formattable(shapes: &Shapes, numbers: &[usize]) -> bool
     requires numbers { AreBelow (length shapes.now) numbers.now }
-    ensures { result ≡ flow.all_formattable (shapes_at (expansions shapes.now) numbers.now) }
+    ensures { result ≡ flow.all_formattable (shapes_at shapes.now numbers.now) }
 {
     for number in numbers {
         if !is_formattable(shapes, *number) {
@@ -212,7 +206,7 @@ fn all_formattable(shapes: &Shapes, numbers: &[usize]) -> bool
 /// Whether each tree of the shape of that number can be put in a text.
 fn is_formattable(shapes: &Shapes, number: usize) -> bool
     requires number { number < length shapes.now }
-    ensures { result ≡ flow.is_formattable (shape_at (expansions shapes.now) number) }
+    ensures { result ≡ flow.is_formattable (shape_at shapes.now number) }
 {
     match kinds_of(shapes, number) {
         Some(kinds) => !some_array_or_object(shapes, &kinds),

@@ -2,9 +2,8 @@
 ghost use Rattle.std.specs.Prelude.{◌≡◌, false, IfOk, OnOk, String, length, string_bytes, string_cmp};
 ghost use Rattle.std.specs.BTreeMap.{insert_entry};
 ghost use Rattle.std.specs.declared.alloc.Global.{Global};
-ghost use Rattle.asl_flow.specs.Numbers.{Shows};
 ghost use Rattle.asl_model.specs.Shape as model;
-ghost use Rattle.asl_numbered.specs.Expansion.{expansions, shapes_at, fields_at, numbers_in, AreBelow, Keeps};
+ghost use Rattle.asl_numbered.specs.Expansion.{shapes_at, fields_at, numbers_in, AreBelow, Keeps, Shows};
 
 use crate::numbers::put_node;
 use asl_numbered::{Node, NodeField, Shapes};
@@ -28,9 +27,8 @@ pub(crate) fn set_field<F: Drop>(
 pub(crate) fn closed_list(shapes: &mut Shapes, first: Vec<usize>) -> Result<usize, OutOfMemory>
     requires first { AreBelow (length shapes.old) first.items }
     ensures shown { IfOk result
-        (Shows shapes.new
-        (model.ArrayShape (shapes_at (expansions shapes.old) first.items) model.Never)) }
-    ensures keeps { Keeps (expansions shapes.old) (expansions shapes.new) }
+        (Shows shapes.new (model.ArrayShape (shapes_at shapes.old first.items) model.Never)) }
+    ensures keeps { Keeps shapes.old shapes.new }
 {
     let rest = put_node(shapes, Node::Never)?;
     put_node(shapes, Node::List { first, rest })
@@ -44,9 +42,8 @@ pub(crate) fn closed_object(
 ) -> Result<usize, OutOfMemory>
     requires fields { AreBelow (length shapes.old) (numbers_in fields.entries) }
     ensures shown { IfOk result
-        (Shows shapes.new
-        (model.ObjectShape (fields_at (expansions shapes.old) fields.entries) false)) }
-    ensures keeps { Keeps (expansions shapes.old) (expansions shapes.new) }
+        (Shows shapes.new (model.ObjectShape (fields_at shapes.old fields.entries) false)) }
+    ensures keeps { Keeps shapes.old shapes.new }
 {
     let extra = false;
     put_node(shapes, Node::Object { fields, extra })

@@ -10,7 +10,7 @@ ghost use Rattle.asl_model.specs.Path.{Name, Index};
 ghost use Rattle.asl_model.specs.Shape as shape;
 ghost use Rattle.asl_model.specs.ShapeFlow.{look, look_at as part_by_path};
 ghost use Rattle.asl_model.specs.Tree as trees;
-ghost use Rattle.asl_numbered.specs.Expansion.{expansions, shape_at, Keeps};
+ghost use Rattle.asl_numbered.specs.Expansion.{shape_at, Keeps};
 ghost use Rattle.asl_numbered.specs.TakenApart.{kinds_at};
 ghost use Rattle.asl_path.specs.View.{segment_view, segments_view};
 ghost use Rattle.asl_shape.specs.View.{view};
@@ -56,15 +56,12 @@ pub fn missing_at(
 ) -> Result<Option<Tree>, OutOfMemory>
     requires number { number < length shapes.old }
     ensures as_defined { IfOk result
-        (λ r. option_map tree_view r
-        ≡ model.missing path.now (shape_at (expansions shapes.old) number)) }
+        (λ r. option_map tree_view r ≡ model.missing path.now (shape_at shapes.old number)) }
     ensures missing { IfOk result
-        (λ r. IfSome r
-        (λ t. IsMissing path.now (shape_at (expansions shapes.old) number) (tree_view t))) }
+        (λ r. IfSome r (λ t. IsMissing path.now (shape_at shapes.old number) (tree_view t))) }
     ensures exactly { IfOk result
-        (λ r. (r ≡ None)
-        ↔ IsTrue (is_ok (look path.now (shape_at (expansions shapes.old) number)))) }
-    ensures keeps { Keeps (expansions shapes.old) (expansions shapes.new) }
+        (λ r. (r ≡ None) ↔ IsTrue (is_ok (look path.now (shape_at shapes.old number)))) }
+    ensures keeps { Keeps shapes.old shapes.new }
 {
     look_is_exactly_named();
     shapes.are_proper();
@@ -79,11 +76,10 @@ pub(crate) fn counterexample_at(
     doubtful: DoubtfulPath<'_>,
 ) -> Result<Tree, OutOfMemory>
     requires within { doubtful.shape < length shapes.old }
-    requires refused { IsErr
-        (look doubtful.path.now (shape_at (expansions shapes.old) doubtful.shape)) }
+    requires refused { IsErr (look doubtful.path.now (shape_at shapes.old doubtful.shape)) }
     ensures shown { IfOk result
-        (λ t. IsShownBy (doubtful_view (expansions shapes.old) doubtful.entry) (tree_view t)) }
-    ensures keeps { Keeps (expansions shapes.old) (expansions shapes.new) }
+        (λ t. IsShownBy (doubtful_view shapes.old doubtful.entry) (tree_view t)) }
+    ensures keeps { Keeps shapes.old shapes.new }
 {
     match missing_at(alloc, shapes, doubtful.shape, doubtful.path)? {
         Some(tree) => Ok(tree),
@@ -100,9 +96,8 @@ fn example_without(
 ) -> Result<Option<Tree>, OutOfMemory>
     requires number { number < length shapes.old }
     ensures as_defined { IfOk result
-        (λ r. option_map tree_view r
-        ≡ model.missing path.now (shape_at (expansions shapes.old) number)) }
-    ensures keeps { Keeps (expansions shapes.old) (expansions shapes.new) }
+        (λ r. option_map tree_view r ≡ model.missing path.now (shape_at shapes.old number)) }
+    ensures keeps { Keeps shapes.old shapes.new }
 {
     if find_part(shapes, number, path).is_ok() {
         return Ok(None);
@@ -125,13 +120,12 @@ fn leave_out(
 ) -> Result<(), OutOfMemory>
     requires number { number < length shapes.old }
     requires refused { IsErr
-        (part_by_path (segments_view segments.now) (shape_at (expansions shapes.old) number)) }
-    requires given { IsExample (shape_at (expansions shapes.old) number) (tree_view tree.old) }
+        (part_by_path (segments_view segments.now) (shape_at shapes.old number)) }
+    requires given { IsExample (shape_at shapes.old number) (tree_view tree.old) }
     ensures missing { IfOk result
-        (λ _. model.missing_at (segments_view segments.now)
-        (shape_at (expansions shapes.old) number)
+        (λ _. model.missing_at (segments_view segments.now) (shape_at shapes.old number)
         ≡ Some (tree_view tree.new)) }
-    ensures keeps { Keeps (expansions shapes.old) (expansions shapes.new) }
+    ensures keeps { Keeps shapes.old shapes.new }
 {
     shapes.are_proper();
     let [segment, rest @ ..] = segments else {
@@ -154,15 +148,13 @@ fn leave_out_behind(
     tree: &mut Tree,
 ) -> Result<(), OutOfMemory>
     requires part { part < length shapes.old }
-    requires refused { IsErr
-        (part_by_path (segments_view rest.now) (shape_at (expansions shapes.old) part)) }
-    requires given { HasExample (segment_view segment.now) (shape_at (expansions shapes.old) part)
+    requires refused { IsErr (part_by_path (segments_view rest.now) (shape_at shapes.old part)) }
+    requires given { HasExample (segment_view segment.now) (shape_at shapes.old part)
         (tree_view tree.old) }
     ensures missing { IfOk result
         (λ _. missing_under (segment_view segment.now) (segments_view rest.now)
-        (shape_at (expansions shapes.old) part) (tree_view tree.old)
-        ≡ Some (tree_view tree.new)) }
-    ensures keeps { Keeps (expansions shapes.old) (expansions shapes.new) }
+        (shape_at shapes.old part) (tree_view tree.old) ≡ Some (tree_view tree.new)) }
+    ensures keeps { Keeps shapes.old shapes.new }
 {
     match segment {
         Segment::Name(name) => match tree {
@@ -189,16 +181,14 @@ fn leave_out_of_field(
     fields: &mut BTreeMap<String, Tree>,
 ) -> Result<(), OutOfMemory>
     requires part { part < length shapes.old }
-    requires refused { IsErr
-        (part_by_path (segments_view rest.now) (shape_at (expansions shapes.old) part)) }
+    requires refused { IsErr (part_by_path (segments_view rest.now) (shape_at shapes.old part)) }
     requires given { HasExample (Name (string_bytes name.now))
-        (shape_at (expansions shapes.old) part)
-        (trees.Object (entries_view fields.old.entries)) }
+        (shape_at shapes.old part) (trees.Object (entries_view fields.old.entries)) }
     ensures missing { IfOk result
         (λ _. missing_under (Name (string_bytes name.now)) (segments_view rest.now)
-        (shape_at (expansions shapes.old) part) (trees.Object (entries_view fields.old.entries))
+        (shape_at shapes.old part) (trees.Object (entries_view fields.old.entries))
         ≡ Some (trees.Object (entries_view fields.new.entries))) }
-    ensures keeps { Keeps (expansions shapes.old) (expansions shapes.new) }
+    ensures keeps { Keeps shapes.old shapes.new }
 {
     let Some(field) = fields.get_mut(name.as_str()) else {
         unreachable!()
@@ -217,15 +207,14 @@ fn leave_out_of_element(
     elements: &mut Vec<Tree>,
 ) -> Result<(), OutOfMemory>
     requires part { part < length shapes.old }
-    requires refused { IsErr
-        (part_by_path (segments_view rest.now) (shape_at (expansions shapes.old) part)) }
-    requires given { HasExample (Index index) (shape_at (expansions shapes.old) part)
+    requires refused { IsErr (part_by_path (segments_view rest.now) (shape_at shapes.old part)) }
+    requires given { HasExample (Index index) (shape_at shapes.old part)
         (trees.Array (elements_view elements.old.items)) }
     ensures missing { IfOk result
         (λ _. missing_under (Index index) (segments_view rest.now)
-        (shape_at (expansions shapes.old) part) (trees.Array (elements_view elements.old.items))
+        (shape_at shapes.old part) (trees.Array (elements_view elements.old.items))
         ≡ Some (trees.Array (elements_view elements.new.items))) }
-    ensures keeps { Keeps (expansions shapes.old) (expansions shapes.new) }
+    ensures keeps { Keeps shapes.old shapes.new }
 {
     leave_out(alloc, shapes, part, rest, &mut elements[index as usize])
 }
@@ -239,12 +228,11 @@ fn leave_out_here(
     tree: &mut Tree,
 ) -> Result<(), OutOfMemory>
     requires number { number < length shapes.old }
-    requires given { tree_view tree.old ≡ example (shape_at (expansions shapes.old) number) }
+    requires given { tree_view tree.old ≡ example (shape_at shapes.old number) }
     ensures without { IfOk result
-        (λ _. model.example_without (segment_view segment.now)
-        (shape_at (expansions shapes.old) number)
+        (λ _. model.example_without (segment_view segment.now) (shape_at shapes.old number)
         ≡ tree_view tree.new) }
-    ensures keeps { Keeps (expansions shapes.old) (expansions shapes.new) }
+    ensures keeps { Keeps shapes.old shapes.new }
 {
     let Some(kinds) = kinds_of(shapes, number) else {
         return Ok(());

@@ -2,10 +2,9 @@
 
 ghost use Rattle.std.specs.Prelude.{◌≡◌, ◌<◌, IfOk, IfSome, if◌then◌else◌, length, map, option_map};
 ghost use Rattle.asl_flow.specs.Elements.{elements_view, AreElementsBelow};
-ghost use Rattle.asl_flow.specs.Numbers.{Shows};
 ghost use Rattle.asl_model.specs.Finding as model;
 ghost use Rattle.asl_model.specs.Shape as kinds;
-ghost use Rattle.asl_numbered.specs.Expansion.{expansions, shape_at, shapes_at, AreBelow, IsNumberOf, Keeps};
+ghost use Rattle.asl_numbered.specs.Expansion.{shape_at, shapes_at, AreBelow, IsNumberOf, Keeps, Shows};
 
 use crate::composing::closed_list;
 use crate::kinds::arrays_alone;
@@ -30,8 +29,8 @@ pub fn elements_of(
 ) -> Result<Option<Elements>, OutOfMemory>
     requires number { number < length shapes.now }
     ensures as_defined { IfOk result
-        (λ r. option_map (elements_view (expansions shapes.now)) r
-        ≡ model.array_parts (shape_at (expansions shapes.now) number)) }
+        (λ r. option_map (elements_view shapes.now) r
+        ≡ model.array_parts (shape_at shapes.now number)) }
     ensures within { IfOk result (λ r. IfSome r (AreElementsBelow (length shapes.now))) }
 {
     match arrays_alone(shapes, number) {
@@ -48,10 +47,9 @@ pub fn elements_of(
 pub fn element_at(shapes: &mut Shapes, elements: &Elements) -> Result<usize, OutOfMemory>
     requires elements { AreElementsBelow (length shapes.old) elements.now }
     ensures number { IfOk result
-        (IsNumberOf (expansions shapes.new)
-        (model.element_shape (shapes_at (expansions shapes.old) elements.now.first.items)
-        (shape_at (expansions shapes.old) elements.now.rest))) }
-    ensures keeps { Keeps (expansions shapes.old) (expansions shapes.new) }
+        (IsNumberOf shapes.new (model.element_shape (shapes_at shapes.old elements.now.first.items)
+        (shape_at shapes.old elements.now.rest))) }
+    ensures keeps { Keeps shapes.old shapes.new }
 {
     let mut element = put_never(shapes)?;
     for place in &elements.first {
@@ -73,11 +71,9 @@ pub fn outputs_at(
     requires output { output < length shapes.old }
     requires items { AreElementsBelow (length shapes.old) items.now }
     ensures number { IfOk result
-        (IsNumberOf (expansions shapes.new)
-        (model.map_result (shape_at (expansions shapes.old) output)
-        (shapes_at (expansions shapes.old) items.now.first.items)
-        (shape_at (expansions shapes.old) items.now.rest))) }
-    ensures keeps { Keeps (expansions shapes.old) (expansions shapes.new) }
+        (IsNumberOf shapes.new (model.map_result (shape_at shapes.old output)
+        (shapes_at shapes.old items.now.first.items) (shape_at shapes.old items.now.rest))) }
+    ensures keeps { Keeps shapes.old shapes.new }
 {
     let first = Vec::from_elem(alloc, output, items.first.len())?;
     let rest = further_output(shapes, output, items.rest)?;
@@ -91,10 +87,9 @@ fn further_output(shapes: &mut Shapes, output: usize, rest: usize) -> Result<usi
     requires output { output < length shapes.old }
     requires rest { rest < length shapes.old }
     ensures shown { IfOk result
-        (Shows shapes.new
-        (if kinds.inhabited (shape_at (expansions shapes.old) rest)
-        then shape_at (expansions shapes.old) output else kinds.Never)) }
-    ensures keeps { Keeps (expansions shapes.old) (expansions shapes.new) }
+        (Shows shapes.new (if kinds.inhabited (shape_at shapes.old rest)
+        then shape_at shapes.old output else kinds.Never)) }
+    ensures keeps { Keeps shapes.old shapes.new }
 {
     if is_inhabited(shapes, rest) {
         Ok(output)
@@ -108,10 +103,9 @@ fn further_output(shapes: &mut Shapes, output: usize, rest: usize) -> Result<usi
 pub fn list_at(alloc: Global, shapes: &mut Shapes, elements: &[usize]) -> Result<usize, OutOfMemory>
     requires elements { AreBelow (length shapes.old) elements.now }
     ensures number { IfOk result
-        (IsNumberOf (expansions shapes.new)
-        (kinds.ArrayShape (model.as_first_elements
-        (map (shape_at (expansions shapes.old)) elements.now)) kinds.Never)) }
-    ensures keeps { Keeps (expansions shapes.old) (expansions shapes.new) }
+        (IsNumberOf shapes.new (kinds.ArrayShape (model.as_first_elements
+        (map (shape_at shapes.old) elements.now)) kinds.Never)) }
+    ensures keeps { Keeps shapes.old shapes.new }
 {
     let first = Vec::from_slice(alloc, elements)?;
     let number = closed_list(shapes, first)?;

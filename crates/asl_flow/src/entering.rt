@@ -5,7 +5,7 @@ ghost use Rattle.asl_flow.specs.Doubts.{flow_view, IsFlowIn};
 ghost use Rattle.asl_flow.specs.Leaving.{FlowsTo};
 ghost use Rattle.asl_states.specs.Machine.{settings_view};
 ghost use Rattle.asl_model.specs.Finding.{effective_flow, item_flow};
-ghost use Rattle.asl_numbered.specs.Expansion.{expansions, shape_at, IsNumberOf, Keeps};
+ghost use Rattle.asl_numbered.specs.Expansion.{shape_at, IsNumberOf, Keeps};
 ghost use Rattle.asl_template.specs.View as templates;
 
 use crate::doubts::Flow;
@@ -31,12 +31,11 @@ pub fn effective_at<'p>(
     requires number { input < length shapes.old }
     ensures as_defined { IfOk result
         (λ flow. effective_flow (settings_view settings.now)
-        (shape_at (expansions shapes.old) input) ≡ flow_view (expansions shapes.new) flow) }
+        (shape_at shapes.old input) ≡ flow_view shapes.new flow) }
     ensures within { IfOk result (IsFlowIn (length shapes.new)) }
     ensures number { IfOk result
-        (λ flow. IfOk flow
-        (λ n. IsNumberOf (expansions shapes.new) (shape_at (expansions shapes.new) n) n)) }
-    ensures keeps { Keeps (expansions shapes.old) (expansions shapes.new) }
+        (λ flow. IfOk flow (λ n. IsNumberOf shapes.new (shape_at shapes.new n) n)) }
+    ensures keeps { Keeps shapes.old shapes.new }
 {
     let flow = enter(alloc, shapes, settings, input)?;
     shapes.are_distinct();
@@ -57,13 +56,11 @@ pub fn item_input_at<'p>(
     requires element { element < length shapes.old }
     ensures as_defined { IfOk result
         (λ flow. item_flow (option_map templates.view selector.now)
-        (shape_at (expansions shapes.old) effective) (shape_at (expansions shapes.old) element)
-        ≡ flow_view (expansions shapes.new) flow) }
+        (shape_at shapes.old effective) (shape_at shapes.old element) ≡ flow_view shapes.new flow) }
     ensures within { IfOk result (IsFlowIn (length shapes.new)) }
     ensures number { IfOk result
-        (λ flow. IfOk flow
-        (λ n. IsNumberOf (expansions shapes.new) (shape_at (expansions shapes.new) n) n)) }
-    ensures keeps { Keeps (expansions shapes.old) (expansions shapes.new) }
+        (λ flow. IfOk flow (λ n. IsNumberOf shapes.new (shape_at shapes.new n) n)) }
+    ensures keeps { Keeps shapes.old shapes.new }
 {
     let flow = select(alloc, shapes, selector, effective, element)?;
     shapes.are_distinct();
@@ -80,8 +77,8 @@ fn enter<'p>(
     requires number { input < length shapes.old }
     ensures flows { IfOk result
         (FlowsTo shapes.new
-        (effective_flow (settings_view settings.now) (shape_at (expansions shapes.old) input))) }
-    ensures keeps { Keeps (expansions shapes.old) (expansions shapes.new) }
+        (effective_flow (settings_view settings.now) (shape_at shapes.old input))) }
+    ensures keeps { Keeps shapes.old shapes.new }
 {
     match through_path(alloc, shapes, "InputPath", &settings.input_path, input)? {
         Ok(taken) => through_template(alloc, shapes, "Parameters", &settings.parameters, taken),
@@ -100,11 +97,9 @@ fn select<'p>(
     requires effective { effective < length shapes.old }
     requires element { element < length shapes.old }
     ensures flows { IfOk result
-        (FlowsTo shapes.new
-        (item_flow (option_map templates.view selector.now)
-        (shape_at (expansions shapes.old) effective)
-        (shape_at (expansions shapes.old) element))) }
-    ensures keeps { Keeps (expansions shapes.old) (expansions shapes.new) }
+        (FlowsTo shapes.new (item_flow (option_map templates.view selector.now)
+        (shape_at shapes.old effective) (shape_at shapes.old element))) }
+    ensures keeps { Keeps shapes.old shapes.new }
 {
     match selector {
         None => Ok(Ok(element)),

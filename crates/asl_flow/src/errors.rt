@@ -3,7 +3,7 @@
 ghost use Rattle.std.specs.Prelude.{◌≡◌, IfOk, true};
 ghost use Rattle.asl_model.specs.Finding.{error_output_shape};
 ghost use Rattle.asl_model.specs.Shape as model;
-ghost use Rattle.asl_numbered.specs.Expansion.{expansions, IsNumberOf, Keeps};
+ghost use Rattle.asl_numbered.specs.Expansion.{IsNumberOf, Keeps};
 ghost use Rattle.asl_shape.specs.View.{view};
 
 use asl_numbered::Shapes;
@@ -14,10 +14,10 @@ use std::collections::BTreeMap;
 
 /// The number of the shape of the error output, which catchers place: the error's name and its cause, both texts.
 /// Refuses only where an allocation was refused.
-#[tactic(auto, using(crate::proofs::Numbered::renumbered, asl_numbered::proofs::Expansions::keeps_same))]
+#[tactic(auto, using(crate::proofs::Numbered::renumbered, asl_numbered::specs::Laws::keeps_same))]
 pub fn error_output_at(alloc: Global, shapes: &mut Shapes) -> Result<usize, OutOfMemory>
-    ensures number { IfOk result (IsNumberOf (expansions shapes.new) error_output_shape) }
-    ensures keeps { Keeps (expansions shapes.old) (expansions shapes.new) }
+    ensures number { IfOk result (IsNumberOf shapes.new error_output_shape) }
+    ensures keeps { Keeps shapes.old shapes.new }
 {
     let shape = error_output(alloc)?;
     shapes.add(&shape)

@@ -4,14 +4,12 @@ ghost use Rattle.std.specs.Prelude.{◌≡◌, ◌<◌, List, [], true, Ok, IfOk
 ghost use Rattle.asl_choice.specs.View.{kind_view};
 ghost use Rattle.asl_flow.specs.Doubts.{found_view, IsFoundIn};
 ghost use Rattle.asl_flow.specs.Kinds.{AreKindsIn, kind_if};
-ghost use Rattle.asl_flow.specs.Numbers.{Shows};
 ghost use Rattle.asl_model.specs.Shape as shape;
 ghost use Rattle.asl_model.specs.ShapeFlow as model;
 ghost use Rattle.asl_model.specs.Test.{IsOfKind};
-ghost use Rattle.asl_numbered.specs.Expansion.{expansions, shape_at, shape_over, parts, Keeps};
+ghost use Rattle.asl_numbered.specs.Expansion.{shape_at, shape_over, parts, Keeps, Shows};
 ghost use Rattle.asl_numbered.specs.Kinds.{HasProperParts};
 ghost use Rattle.asl_numbered.specs.TakenApart.{kinds_at, kinds_over};
-ghost use Rattle.asl_numbered.specs.declared.node.Node.{Node as Level};
 
 use crate::doubts::Found;
 use crate::kinds::kinds_of;
@@ -37,10 +35,9 @@ pub(crate) fn narrow_to_kind<'p>(
     requires number { number < length shapes.old }
     ensures as_defined { IfOk result
         (λ answer. model.true_of (IsOfKind path.now (kind_view kind) wanted)
-        (shape_at (expansions shapes.old) number)
-        ≡ found_view (expansions shapes.new) answer) }
+        (shape_at shapes.old number) ≡ found_view shapes.new answer) }
     ensures within { IfOk result (IsFoundIn (length shapes.new)) }
-    ensures keeps { Keeps (expansions shapes.old) (expansions shapes.new) }
+    ensures keeps { Keeps shapes.old shapes.new }
 {
     if !is_inhabited(shapes, number) {
         return Ok(Ok(put_never(shapes)?));
@@ -64,13 +61,12 @@ fn put_where_found(
 ) -> Result<usize, OutOfMemory>
     requires number { number < length shapes.old }
     requires placed { placed < length shapes.old }
-    requires found { IsOk (model.look_at path.now (shape_at (expansions shapes.old) number)) }
+    requires found { IsOk (model.look_at path.now (shape_at shapes.old number)) }
     ensures within { IfOk result (λ n. n < length shapes.new) }
     ensures placed { IfOk result
-        (λ n. model.put path.now (shape_at (expansions shapes.old) placed)
-        (shape_at (expansions shapes.old) number)
-        ≡ Ok (shape_at (expansions shapes.new) n)) }
-    ensures keeps { Keeps (expansions shapes.old) (expansions shapes.new) }
+        (λ n. model.put path.now (shape_at shapes.old placed) (shape_at shapes.old number)
+        ≡ Ok (shape_at shapes.new n)) }
+    ensures keeps { Keeps shapes.old shapes.new }
 {
     match put_at(alloc, shapes, number, path, placed) {
         Ok(changed) => Ok(changed),
@@ -88,9 +84,8 @@ fn keep_by_kind(
 ) -> Result<usize, OutOfMemory>
     requires number { number < length shapes.old }
     ensures shown { IfOk result
-        (Shows shapes.new
-        (model.by_kind (kind_view kind) wanted (shape_at (expansions shapes.old) number))) }
-    ensures keeps { Keeps (expansions shapes.old) (expansions shapes.new) }
+        (Shows shapes.new (model.by_kind (kind_view kind) wanted (shape_at shapes.old number))) }
+    ensures keeps { Keeps shapes.old shapes.new }
 {
     if wanted {
         keep_kind(shapes, number, kind)
@@ -103,9 +98,8 @@ fn keep_by_kind(
 fn keep_kind(shapes: &mut Shapes, number: usize, kind: ValueKind) -> Result<usize, OutOfMemory>
     requires number { number < length shapes.old }
     ensures shown { IfOk result
-        (Shows shapes.new
-        (model.of_kind (kind_view kind) (shape_at (expansions shapes.old) number))) }
-    ensures keeps { Keeps (expansions shapes.old) (expansions shapes.new) }
+        (Shows shapes.new (model.of_kind (kind_view kind) (shape_at shapes.old number))) }
+    ensures keeps { Keeps shapes.old shapes.new }
 {
     if takes_kind(shapes, number, kind) {
         put_node(shapes, node_of(kind))
@@ -117,7 +111,7 @@ fn keep_kind(shapes: &mut Shapes, number: usize, kind: ValueKind) -> Result<usiz
 /// Whether the shape of that number takes trees of the kind.
 fn takes_kind(shapes: &Shapes, number: usize, kind: ValueKind) -> bool
     requires number { number < length shapes.now }
-    ensures { model.of_kind (kind_view kind) (shape_at (expansions shapes.now) number)
+    ensures { model.of_kind (kind_view kind) (shape_at shapes.now number)
         ≡ kind_if result (kind_view kind) }
 {
     match kinds_of(shapes, number) {
@@ -159,9 +153,8 @@ fn node_of(kind: ValueKind) -> Node
 fn drop_kind(shapes: &mut Shapes, number: usize, kind: ValueKind) -> Result<usize, OutOfMemory>
     requires number { number < length shapes.old }
     ensures shown { IfOk result
-        (Shows shapes.new
-        (model.not_of_kind (kind_view kind) (shape_at (expansions shapes.old) number))) }
-    ensures keeps { Keeps (expansions shapes.old) (expansions shapes.new) }
+        (Shows shapes.new (model.not_of_kind (kind_view kind) (shape_at shapes.old number))) }
+    ensures keeps { Keeps shapes.old shapes.new }
 {
     match kinds_of(shapes, number) {
         Some(kinds) => {
@@ -174,8 +167,8 @@ fn drop_kind(shapes: &mut Shapes, number: usize, kind: ValueKind) -> Result<usiz
 
 /// The same kinds, by their numbers.
 pub(crate) fn numbers_of(kinds: &NodeKinds<'_>) -> KindNumbers
-    ensures { (nodes : List Level) → AreKindsIn nodes kinds.now
-        → kinds_at (expansions nodes) result ≡ kinds_over (expansions nodes) kinds.now }
+    ensures { (table : List shape.Shape) → AreKindsIn table kinds.now
+        → kinds_at table result ≡ kinds_over table kinds.now }
 {
     KindNumbers {
         null: kinds.null,

@@ -4,7 +4,7 @@ ghost use Rattle.std.specs.Prelude.{◌≡◌, ◌<◌, ◌||◌, Bool, IfSome, 
 ghost use Rattle.asl_flow.specs.Kinds.{AreArraysIn, AreKindsIn, AreObjectsIn};
 ghost use Rattle.asl_model.specs.Shape as model;
 ghost use Rattle.asl_model.specs.ShapeFlow as flow;
-ghost use Rattle.asl_numbered.specs.Expansion.{expansions, shape_at};
+ghost use Rattle.asl_numbered.specs.Expansion.{shape_at};
 ghost use Rattle.asl_numbered.specs.TakenApart as taken;
 ghost use Rattle.asl_numbered.specs.TakenApart.{arrays_over, objects_over, taken_apart};
 
@@ -14,8 +14,7 @@ use asl_numbered::{NodeArrays, NodeKinds, NodeObjects, Shapes};
 /// What the shape of that number takes of each kind; `None` where it is `Any`.
 pub(crate) fn kinds_of(shapes: &Shapes, number: usize) -> Option<NodeKinds<'_>>
     requires number { number < length shapes.now }
-    ensures shown { taken_apart (expansions shapes.now) result
-        ≡ shape_at (expansions shapes.now) number }
+    ensures shown { taken_apart shapes.now result ≡ shape_at shapes.now number }
     ensures within { IfSome result (AreKindsIn shapes.now) }
 {
     shapes.take_apart(number)
@@ -24,8 +23,7 @@ pub(crate) fn kinds_of(shapes: &Shapes, number: usize) -> Option<NodeKinds<'_>>
 /// The lists of the shape of that number, whatever else it takes.
 pub(crate) fn arrays_of(shapes: &Shapes, number: usize) -> Option<NodeArrays<'_>>
     requires number { number < length shapes.now }
-    ensures shown { arrays_over (expansions shapes.now) result
-        ≡ taken.arrays_of (shape_at (expansions shapes.now) number) }
+    ensures shown { arrays_over shapes.now result ≡ taken.arrays_of (shape_at shapes.now number) }
     ensures within { IfSome result (AreArraysIn shapes.now) }
 {
     kinds_of(shapes, number)?.arrays
@@ -34,8 +32,7 @@ pub(crate) fn arrays_of(shapes: &Shapes, number: usize) -> Option<NodeArrays<'_>
 /// The objects of the shape of that number, whatever else it takes.
 pub(crate) fn objects_of(shapes: &Shapes, number: usize) -> Option<NodeObjects<'_>>
     requires number { number < length shapes.now }
-    ensures shown { objects_over (expansions shapes.now) result
-        ≡ taken.objects_of (shape_at (expansions shapes.now) number) }
+    ensures shown { objects_over shapes.now result ≡ taken.objects_of (shape_at shapes.now number) }
     ensures within { IfSome result (AreObjectsIn shapes.now) }
 {
     kinds_of(shapes, number)?.objects
@@ -44,8 +41,7 @@ pub(crate) fn objects_of(shapes: &Shapes, number: usize) -> Option<NodeObjects<'
 /// The lists of the shape of that number, where no other trees have it.
 pub(crate) fn arrays_alone(shapes: &Shapes, number: usize) -> Option<NodeArrays<'_>>
     requires number { number < length shapes.now }
-    ensures shown { arrays_over (expansions shapes.now) result
-        ≡ flow.arrays_alone (shape_at (expansions shapes.now) number) }
+    ensures shown { arrays_over shapes.now result ≡ flow.arrays_alone (shape_at shapes.now number) }
     ensures within { IfSome result (AreArraysIn shapes.now) }
 {
     let kinds = kinds_of(shapes, number)?;
@@ -59,8 +55,8 @@ pub(crate) fn arrays_alone(shapes: &Shapes, number: usize) -> Option<NodeArrays<
 /// The objects of the shape of that number, where no other trees have it.
 pub(crate) fn objects_alone(shapes: &Shapes, number: usize) -> Option<NodeObjects<'_>>
     requires number { number < length shapes.now }
-    ensures shown { objects_over (expansions shapes.now) result
-        ≡ flow.objects_alone (shape_at (expansions shapes.now) number) }
+    ensures shown { objects_over shapes.now result
+        ≡ flow.objects_alone (shape_at shapes.now number) }
     ensures within { IfSome result (AreObjectsIn shapes.now) }
 {
     let kinds = kinds_of(shapes, number)?;
@@ -75,8 +71,8 @@ pub(crate) fn objects_alone(shapes: &Shapes, number: usize) -> Option<NodeObject
 pub(crate) fn some_array_or_object(shapes: &Shapes, kinds: &NodeKinds<'_>) -> bool
     requires kinds { AreKindsIn shapes.now kinds.now }
     ensures as_defined { result
-        ≡ (model.some_array (arrays_over (expansions shapes.now) kinds.now.arrays)
-        || model.some_object (objects_over (expansions shapes.now) kinds.now.objects)) }
+        ≡ (model.some_array (arrays_over shapes.now kinds.now.arrays)
+        || model.some_object (objects_over shapes.now kinds.now.objects)) }
 {
     some_array(shapes, kinds.arrays) || some_object(shapes, kinds.objects)
 }
@@ -91,7 +87,7 @@ fn some_simple(kinds: &NodeKinds<'_>) -> bool
 /// Whether there is a list among these.
 fn some_array(shapes: &Shapes, arrays: Option<NodeArrays<'_>>) -> bool
     requires arrays { IfSome arrays (AreArraysIn shapes.now) }
-    ensures { result ≡ model.some_array (arrays_over (expansions shapes.now) arrays.entry) }
+    ensures { result ≡ model.some_array (arrays_over shapes.now arrays.entry) }
 {
     match arrays {
         Some(arrays) => is_inhabited(shapes, arrays.number),
@@ -102,7 +98,7 @@ fn some_array(shapes: &Shapes, arrays: Option<NodeArrays<'_>>) -> bool
 /// Whether there is an object among these.
 fn some_object(shapes: &Shapes, objects: Option<NodeObjects<'_>>) -> bool
     requires objects { IfSome objects (AreObjectsIn shapes.now) }
-    ensures { result ≡ model.some_object (objects_over (expansions shapes.now) objects.entry) }
+    ensures { result ≡ model.some_object (objects_over shapes.now objects.entry) }
 {
     match objects {
         Some(objects) => is_inhabited(shapes, objects.number),
@@ -113,8 +109,7 @@ fn some_object(shapes: &Shapes, objects: Option<NodeObjects<'_>>) -> bool
 /// Whether trees have the shape of that number, and whole numbers alone.
 pub fn is_only_integers(shapes: &Shapes, number: usize) -> bool
     requires number { number < length shapes.now }
-    ensures as_defined { result
-        ≡ flow.is_integer_shape (shape_at (expansions shapes.now) number) }
+    ensures as_defined { result ≡ flow.is_integer_shape (shape_at shapes.now number) }
 {
     match kinds_of(shapes, number) {
         Some(kinds) => {
@@ -128,7 +123,7 @@ pub fn is_only_integers(shapes: &Shapes, number: usize) -> bool
 /// Whether trees have the shape of that number, and texts alone.
 pub fn is_only_texts(shapes: &Shapes, number: usize) -> bool
     requires number { number < length shapes.now }
-    ensures as_defined { result ≡ flow.is_string_shape (shape_at (expansions shapes.now) number) }
+    ensures as_defined { result ≡ flow.is_string_shape (shape_at shapes.now number) }
 {
     match kinds_of(shapes, number) {
         Some(kinds) => {
@@ -142,8 +137,7 @@ pub fn is_only_texts(shapes: &Shapes, number: usize) -> bool
 /// Whether trees have the shape of that number, and truth values alone.
 pub(crate) fn is_only_booleans(shapes: &Shapes, number: usize) -> bool
     requires number { number < length shapes.now }
-    ensures as_defined { result
-        ≡ flow.is_boolean_shape (shape_at (expansions shapes.now) number) }
+    ensures as_defined { result ≡ flow.is_boolean_shape (shape_at shapes.now number) }
 {
     match kinds_of(shapes, number) {
         Some(kinds) => {

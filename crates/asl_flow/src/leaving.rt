@@ -8,7 +8,7 @@ ghost use Rattle.asl_model.specs.Tree as trees;
 ghost use Rattle.asl_states.specs.Machine.{settings_view, kind_view};
 ghost use Rattle.asl_flow.specs.Doubts.{fault_of, flow_view, IsCauseIn, IsFlowIn};
 ghost use Rattle.asl_flow.specs.Leaving.{FlowsTo, IsStopped, leaving_of};
-ghost use Rattle.asl_numbered.specs.Expansion.{expansions, shape_at, IsNumberOf, Keeps};
+ghost use Rattle.asl_numbered.specs.Expansion.{shape_at, IsNumberOf, Keeps};
 ghost use Rattle.asl_shape.specs.View.{view};
 
 use crate::counterexamples::counterexample_at;
@@ -94,15 +94,12 @@ pub fn leave_at(
     requires work { work < length shapes.old }
     ensures as_defined { IfOk result
         (λ n. model.leave (settings_view state.now.settings) (kind_view state.now.kind)
-        (shape_at (expansions shapes.old) raw) (shape_at (expansions shapes.old) work)
-        ≡ Ok (shape_at (expansions shapes.new) n)) }
-    ensures number { IfOk result
-        (λ n. IsNumberOf (expansions shapes.new) (shape_at (expansions shapes.new) n) n) }
+        (shape_at shapes.old raw) (shape_at shapes.old work) ≡ Ok (shape_at shapes.new n)) }
+    ensures number { IfOk result (λ n. IsNumberOf shapes.new (shape_at shapes.new n) n) }
     ensures refused { IfErr result
-        (IsStopped
-        (model.leave (settings_view state.now.settings) (kind_view state.now.kind)
-        (shape_at (expansions shapes.old) raw) (shape_at (expansions shapes.old) work))) }
-    ensures keeps { Keeps (expansions shapes.old) (expansions shapes.new) }
+        (IsStopped (model.leave (settings_view state.now.settings) (kind_view state.now.kind)
+        (shape_at shapes.old raw) (shape_at shapes.old work))) }
+    ensures keeps { Keeps shapes.old shapes.new }
 {
     match output_at(alloc, shapes, state, raw, work)? {
         Ok(number) => Ok(number),
@@ -124,13 +121,11 @@ pub fn output_at<'p>(
     requires work { work < length shapes.old }
     ensures as_defined { IfOk result
         (λ flow. model.leave (settings_view state.now.settings) (kind_view state.now.kind)
-        (shape_at (expansions shapes.old) raw) (shape_at (expansions shapes.old) work)
-        ≡ flow_view (expansions shapes.new) flow) }
+        (shape_at shapes.old raw) (shape_at shapes.old work) ≡ flow_view shapes.new flow) }
     ensures within { IfOk result (IsFlowIn (length shapes.new)) }
     ensures number { IfOk result
-        (λ flow. IfOk flow
-        (λ n. IsNumberOf (expansions shapes.new) (shape_at (expansions shapes.new) n) n)) }
-    ensures keeps { Keeps (expansions shapes.old) (expansions shapes.new) }
+        (λ flow. IfOk flow (λ n. IsNumberOf shapes.new (shape_at shapes.new n) n)) }
+    ensures keeps { Keeps shapes.old shapes.new }
 {
     let flow = output_by_kind(alloc, shapes, state, raw, work)?;
     shapes.are_distinct();
@@ -144,9 +139,8 @@ fn fault_told(
     doubt: Doubt<'_>,
 ) -> Result<FlowFault, OutOfMemory>
     requires cause { IsCauseIn shapes.old doubt.cause }
-    ensures told { IfOk result
-        (IsStopped (Err (fault_of (expansions shapes.old) doubt.entry ∷ []))) }
-    ensures keeps { Keeps (expansions shapes.old) (expansions shapes.new) }
+    ensures told { IfOk result (IsStopped (Err (fault_of shapes.old doubt.entry ∷ []))) }
+    ensures keeps { Keeps shapes.old shapes.new }
 {
     match doubt.cause {
         Cause::MayBeMissing(doubtful) => {
@@ -171,8 +165,8 @@ fn output_by_kind<'p>(
     ensures flows { IfOk result
         (FlowsTo shapes.new
         (model.leave (settings_view state.now.settings) (kind_view state.now.kind)
-        (shape_at (expansions shapes.old) raw) (shape_at (expansions shapes.old) work))) }
-    ensures keeps { Keeps (expansions shapes.old) (expansions shapes.new) }
+        (shape_at shapes.old raw) (shape_at shapes.old work))) }
+    ensures keeps { Keeps shapes.old shapes.new }
 {
     match what_leaves(&state.kind) {
         Leaving::WithResult => result_output(alloc, shapes, &state.settings, raw, work),
@@ -226,9 +220,9 @@ fn result_output<'p>(
     requires work { work < length shapes.old }
     ensures flows { IfOk result
         (FlowsTo shapes.new
-        (model.result_leaves (settings_view settings.now) (shape_at (expansions shapes.old) raw)
-        (shape_at (expansions shapes.old) work))) }
-    ensures keeps { Keeps (expansions shapes.old) (expansions shapes.new) }
+        (model.result_leaves (settings_view settings.now) (shape_at shapes.old raw)
+        (shape_at shapes.old work))) }
+    ensures keeps { Keeps shapes.old shapes.new }
 {
     if !are_inhabited(shapes, raw, work) {
         return Ok(Ok(put_never(shapes)?));
@@ -256,10 +250,9 @@ fn placed<'p>(
     requires raw { raw < length shapes.old }
     requires work { work < length shapes.old }
     ensures flows { IfOk result
-        (FlowsTo shapes.new
-        (model.through_placing (codes "ResultPath") path.now
-        (shape_at (expansions shapes.old) raw) (shape_at (expansions shapes.old) work))) }
-    ensures keeps { Keeps (expansions shapes.old) (expansions shapes.new) }
+        (FlowsTo shapes.new (model.through_placing (codes "ResultPath") path.now
+        (shape_at shapes.old raw) (shape_at shapes.old work))) }
+    ensures keeps { Keeps shapes.old shapes.new }
 {
     match path {
         None if is_inhabited(shapes, work) => Ok(Ok(raw)),
@@ -281,10 +274,9 @@ fn at_output<'p>(
 ) -> Result<Flow<'p>, OutOfMemory>
     requires number { number < length shapes.old }
     ensures flows { IfOk result
-        (FlowsTo shapes.new
-        (model.output_flow (settings_view settings.now)
-        (shape_at (expansions shapes.old) number))) }
-    ensures keeps { Keeps (expansions shapes.old) (expansions shapes.new) }
+        (FlowsTo shapes.new (model.output_flow (settings_view settings.now)
+        (shape_at shapes.old number))) }
+    ensures keeps { Keeps shapes.old shapes.new }
 {
     through_path(alloc, shapes, "OutputPath", &settings.output_path, number)
 }

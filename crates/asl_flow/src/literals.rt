@@ -1,8 +1,7 @@
 //! The shape of a value that stands for itself.
 ghost use Rattle.std.specs.Prelude.{◌≡◌, IfOk};
-ghost use Rattle.asl_flow.specs.Numbers.{Shows};
 ghost use Rattle.asl_model.specs.ShapeFlow.{literal, literals, literal_fields as fields_of_literal};
-ghost use Rattle.asl_numbered.specs.Expansion.{expansions, IsNumberOf, AreNumbersOf, AreFieldsOf, Keeps};
+ghost use Rattle.asl_numbered.specs.Expansion.{IsNumberOf, AreNumbersOf, AreFieldsOf, Keeps, Shows};
 ghost use Rattle.asl_shape.specs.View.{view};
 ghost use Rattle.asl_tree.specs.View as trees;
 
@@ -32,9 +31,8 @@ pub fn literal_shape_at(
     shapes: &mut Shapes,
     tree: &Tree,
 ) -> Result<usize, OutOfMemory>
-    ensures number { IfOk result
-        (IsNumberOf (expansions shapes.new) (literal (trees.view tree.now))) }
-    ensures keeps { Keeps (expansions shapes.old) (expansions shapes.new) }
+    ensures number { IfOk result (IsNumberOf shapes.new (literal (trees.view tree.now))) }
+    ensures keeps { Keeps shapes.old shapes.new }
 {
     let number = own_shape(alloc, shapes, tree)?;
     shapes.are_distinct();
@@ -50,7 +48,7 @@ pub(crate) fn own_shape(
     tree: &Tree,
 ) -> Result<usize, OutOfMemory>
     ensures shown { IfOk result (Shows shapes.new (literal (trees.view tree.now))) }
-    ensures keeps { Keeps (expansions shapes.old) (expansions shapes.new) }
+    ensures keeps { Keeps shapes.old shapes.new }
 {
     match tree {
         Tree::Null => put_node(shapes, Node::Null),
@@ -76,9 +74,8 @@ fn element_shapes(
     elements: &[Tree],
 ) -> Result<Vec<usize>, OutOfMemory>
     ensures numbers { IfOk result
-        (λ v. AreNumbersOf (expansions shapes.new)
-        (literals (trees.elements_view elements.now)) v.items) }
-    ensures keeps { Keeps (expansions shapes.old) (expansions shapes.new) }
+        (λ v. AreNumbersOf shapes.new (literals (trees.elements_view elements.now)) v.items) }
+    ensures keeps { Keeps shapes.old shapes.new }
 {
     let mut numbers = Vec::with_capacity(alloc, elements.len())?;
     for element in elements {
@@ -96,9 +93,9 @@ fn field_shapes(
     fields: &BTreeMap<String, Tree>,
 ) -> Result<BTreeMap<String, NodeField>, OutOfMemory>
     ensures numbers { IfOk result
-        (λ m. AreFieldsOf (expansions shapes.new)
+        (λ m. AreFieldsOf shapes.new
         (fields_of_literal (trees.entries_view fields.now.entries)) m.entries) }
-    ensures keeps { Keeps (expansions shapes.old) (expansions shapes.new) }
+    ensures keeps { Keeps shapes.old shapes.new }
 {
     let mut mentions = BTreeMap::new(alloc);
     for (name, field) in fields.iter() {

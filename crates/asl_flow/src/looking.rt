@@ -8,7 +8,7 @@ ghost use Rattle.asl_model.specs.Tree.{Tree};
 ghost use Rattle.asl_flow.specs.Doubts.{found_view, IsFoundIn};
 ghost use Rattle.asl_flow.specs.declared.looking.LookRefusal.TheVariants.{MayBeMissing};
 ghost use Rattle.asl_flow.specs.Looking.{lent};
-ghost use Rattle.asl_numbered.specs.Expansion.{expansions, shape_at, IsNumberOf, Keeps};
+ghost use Rattle.asl_numbered.specs.Expansion.{shape_at, IsNumberOf, Keeps};
 ghost use Rattle.asl_path.specs.View.{segment_view};
 ghost use Rattle.asl_shape.specs.View.{view};
 
@@ -70,13 +70,11 @@ pub fn look(alloc: Global, shape: &Shape, path: &RefPath) -> Result<Shape, LookR
 pub fn look_at(shapes: &mut Shapes, number: usize, path: &RefPath) -> Result<usize, LookRefusal>
     requires number { number < length shapes.old }
     ensures as_defined { IfOk result
-        (λ n. looked path.now (shape_at (expansions shapes.old) number)
-        ≡ Ok (shape_at (expansions shapes.new) n)) }
-    ensures number { IfOk result
-        (λ n. IsNumberOf (expansions shapes.new) (shape_at (expansions shapes.new) n) n) }
+        (λ n. looked path.now (shape_at shapes.old number) ≡ Ok (shape_at shapes.new n)) }
+    ensures number { IfOk result (λ n. IsNumberOf shapes.new (shape_at shapes.new n) n) }
     ensures may_be_missing { (at : ℕ) → (result ≡ Err (MayBeMissing at))
-        ↔ (looked path.now (shape_at (expansions shapes.old) number) ≡ Err at) }
-    ensures keeps { Keeps (expansions shapes.old) (expansions shapes.new) }
+        ↔ (looked path.now (shape_at shapes.old number) ≡ Err at) }
+    ensures keeps { Keeps shapes.old shapes.new }
 {
     match find_at(shapes, number, path)? {
         Ok(part) => Ok(part),
@@ -94,15 +92,12 @@ pub fn find_at<'p>(
 ) -> Result<Found<'p>, OutOfMemory>
     requires number { number < length shapes.old }
     ensures as_defined { IfOk result
-        (λ answer. found_in path.now (shape_at (expansions shapes.old) number)
-        ≡ found_view (expansions shapes.new) answer) }
+        (λ answer. found_in path.now (shape_at shapes.old number) ≡ found_view shapes.new answer) }
     ensures within { IfOk result (IsFoundIn (length shapes.new)) }
-    ensures refused { IfErr result
-        (λ _. inhabited (shape_at (expansions shapes.old) number) ≡ false) }
+    ensures refused { IfErr result (λ _. inhabited (shape_at shapes.old number) ≡ false) }
     ensures number { IfOk result
-        (λ answer. IfOk answer
-        (λ n. IsNumberOf (expansions shapes.new) (shape_at (expansions shapes.new) n) n)) }
-    ensures keeps { Keeps (expansions shapes.old) (expansions shapes.new) }
+        (λ answer. IfOk answer (λ n. IsNumberOf shapes.new (shape_at shapes.new n) n)) }
+    ensures keeps { Keeps shapes.old shapes.new }
 {
     shapes.are_distinct();
     if is_inhabited(shapes, number) {

@@ -1,8 +1,7 @@
 // Narrowing the shape of a number to the trees in which a path names something.
-ghost use Rattle.asl_flow.specs.Numbers.{Shows};
 ghost use Rattle.asl_model.specs.Path.{Name, Index};
 ghost use Rattle.asl_model.specs.ShapeFlow.{narrow_under as narrowed_under, where_present};
-ghost use Rattle.asl_numbered.specs.Expansion.{expansions, shape_at, Keeps};
+ghost use Rattle.asl_numbered.specs.Expansion.{shape_at, Keeps, Shows};
 ghost use Rattle.asl_path.specs.View.{segment_view, segments_view};
 ghost use Rattle.std.specs.Prelude.{◌<◌, IfOk, length, string_bytes};
 
@@ -25,8 +24,8 @@ pub(crate) fn narrow_to_present(
     requires number { number < length shapes.old }
     ensures shown { IfOk result
         (Shows shapes.new
-        (where_present (segments_view segments.now) (shape_at (expansions shapes.old) number))) }
-    ensures keeps { Keeps (expansions shapes.old) (expansions shapes.new) }
+        (where_present (segments_view segments.now) (shape_at shapes.old number))) }
+    ensures keeps { Keeps shapes.old shapes.new }
 {
     let [segment, rest @ ..] = segments else {
         return Ok(number);
@@ -47,8 +46,8 @@ fn narrow_under(
     ensures shown { IfOk result
         (Shows shapes.new
         (narrowed_under (where_present (segments_view rest.now)) (segment_view segment.now)
-        (shape_at (expansions shapes.old) number))) }
-    ensures keeps { Keeps (expansions shapes.old) (expansions shapes.new) }
+        (shape_at shapes.old number))) }
+    ensures keeps { Keeps shapes.old shapes.new }
 {
     match segment {
         Segment::Name(name) => narrow_field(alloc, shapes, number, name, rest),
@@ -70,8 +69,8 @@ fn narrow_field(
     ensures shown { IfOk result
         (Shows shapes.new
         (narrowed_under (where_present (segments_view rest.now)) (Name (string_bytes name.now))
-        (shape_at (expansions shapes.old) number))) }
-    ensures keeps { Keeps (expansions shapes.old) (expansions shapes.new) }
+        (shape_at shapes.old number))) }
+    ensures keeps { Keeps shapes.old shapes.new }
 {
     let Some(kinds) = kinds_of(shapes, number) else {
         return Ok(number);
@@ -104,10 +103,9 @@ fn narrow_place(
 ) -> Result<usize, OutOfMemory>
     requires number { number < length shapes.old }
     ensures shown { IfOk result
-        (Shows shapes.new
-        (narrowed_under (where_present (segments_view rest.now)) (Index index)
-        (shape_at (expansions shapes.old) number))) }
-    ensures keeps { Keeps (expansions shapes.old) (expansions shapes.new) }
+        (Shows shapes.new (narrowed_under (where_present (segments_view rest.now)) (Index index)
+        (shape_at shapes.old number))) }
+    ensures keeps { Keeps shapes.old shapes.new }
 {
     let Some(kinds) = kinds_of(shapes, number) else {
         return Ok(number);

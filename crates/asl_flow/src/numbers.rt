@@ -3,8 +3,7 @@
 ghost use Rattle.std.specs.Prelude.{◌≡◌, ◌<◌, ◌&&◌, IfOk, length};
 ghost use Rattle.asl_model.specs.Shape as model;
 ghost use Rattle.asl_model.specs.ShapeOrder as order;
-ghost use Rattle.asl_flow.specs.Numbers.{Shows};
-ghost use Rattle.asl_numbered.specs.Expansion.{expansions, shape_at, shape_over, Keeps, RefersBelow};
+ghost use Rattle.asl_numbered.specs.Expansion.{shape_at, shape_over, Keeps, RefersBelow, Shows};
 ghost use Rattle.asl_numbered.specs.Kinds.{HasProperParts};
 ghost use Rattle.asl_shape.specs.View.{view};
 
@@ -15,7 +14,7 @@ use asl_tree::OutOfMemory;
 /// Whether some tree has the shape of that number.
 pub(crate) fn is_inhabited(shapes: &Shapes, number: usize) -> bool
     requires number { number < length shapes.now }
-    ensures as_defined { result ≡ model.inhabited (shape_at (expansions shapes.now) number) }
+    ensures as_defined { result ≡ model.inhabited (shape_at shapes.now number) }
 {
     shapes.inhabited(number).unwrap()
 }
@@ -25,8 +24,8 @@ pub(crate) fn are_inhabited(shapes: &Shapes, first: usize, second: usize) -> boo
     requires first { first < length shapes.now }
     requires second { second < length shapes.now }
     ensures as_defined { result
-        ≡ (model.inhabited (shape_at (expansions shapes.now) first)
-        && model.inhabited (shape_at (expansions shapes.now) second)) }
+        ≡ (model.inhabited (shape_at shapes.now first)
+        && model.inhabited (shape_at shapes.now second)) }
 {
     is_inhabited(shapes, first) && is_inhabited(shapes, second)
 }
@@ -34,9 +33,9 @@ pub(crate) fn are_inhabited(shapes: &Shapes, first: usize, second: usize) -> boo
 /// The number of the shape whose first level is the node.
 pub(crate) fn put_node(shapes: &mut Shapes, node: Node) -> Result<usize, OutOfMemory>
     requires refers { RefersBelow (length shapes.old) node }
-    requires proper { HasProperParts (expansions shapes.old) node }
-    ensures shown { IfOk result (Shows shapes.new (shape_over (expansions shapes.old) node)) }
-    ensures keeps { Keeps (expansions shapes.old) (expansions shapes.new) }
+    requires proper { HasProperParts shapes.old node }
+    ensures shown { IfOk result (Shows shapes.new (shape_over shapes.old node)) }
+    ensures keeps { Keeps shapes.old shapes.new }
 {
     let number = shapes.add_node(node)?;
     Ok(number.unwrap())
@@ -45,7 +44,7 @@ pub(crate) fn put_node(shapes: &mut Shapes, node: Node) -> Result<usize, OutOfMe
 /// The number of the shape that no tree has.
 pub(crate) fn put_never(shapes: &mut Shapes) -> Result<usize, OutOfMemory>
     ensures shown { IfOk result (Shows shapes.new model.Never) }
-    ensures keeps { Keeps (expansions shapes.old) (expansions shapes.new) }
+    ensures keeps { Keeps shapes.old shapes.new }
 {
     put_node(shapes, Node::Never)
 }
@@ -59,10 +58,8 @@ pub(crate) fn put_join(
     requires first { first < length shapes.old }
     requires second { second < length shapes.old }
     ensures shown { IfOk result
-        (Shows shapes.new
-        (order.join (shape_at (expansions shapes.old) first)
-        (shape_at (expansions shapes.old) second))) }
-    ensures keeps { Keeps (expansions shapes.old) (expansions shapes.new) }
+        (Shows shapes.new (order.join (shape_at shapes.old first) (shape_at shapes.old second))) }
+    ensures keeps { Keeps shapes.old shapes.new }
 {
     let number = shapes.join(first, second)?;
     Ok(number.unwrap())
@@ -71,7 +68,7 @@ pub(crate) fn put_join(
 /// The shape of that number.
 pub(crate) fn expand(shapes: &Shapes, number: usize) -> Result<Shape, OutOfMemory>
     requires number { number < length shapes.now }
-    ensures shape { IfOk result (λ s. view s ≡ shape_at (expansions shapes.now) number) }
+    ensures shape { IfOk result (λ s. view s ≡ shape_at shapes.now number) }
 {
     let shape = shapes.expand(number)?;
     Ok(shape.unwrap())

@@ -7,7 +7,7 @@ ghost use Rattle.asl_model.specs.ShapeFlow.{look_at, or_doubtful, part_at, place
 ghost use Rattle.asl_model.specs.ShapeOrder.{mention_of};
 ghost use Rattle.asl_flow.specs.Doubts.{found_view, IsFoundIn};
 ghost use Rattle.asl_flow.specs.Numbers.{shown};
-ghost use Rattle.asl_numbered.specs.Expansion.{expansions, shape_at, shapes_at, fields_at, numbers_in, AreBelow};
+ghost use Rattle.asl_numbered.specs.Expansion.{shape_at, shapes_at, fields_at, numbers_in, AreBelow};
 ghost use Rattle.asl_path.specs.View.{segment_view};
 
 use crate::doubts::{DoubtfulPath, Found};
@@ -19,9 +19,8 @@ use std::collections::BTreeMap;
 /// The number of the shape of what `path` names in every tree of a shape that some tree has, or the path as a doubtful one.
 pub(crate) fn look_up<'p>(shapes: &Shapes, number: usize, path: &'p RefPath) -> Found<'p>
     requires number { number < length shapes.now }
-    ensures as_defined { or_doubtful path.now (shape_at (expansions shapes.now) number)
-        (look_at path.now (shape_at (expansions shapes.now) number))
-        ≡ found_view (expansions shapes.now) result }
+    ensures as_defined { or_doubtful path.now (shape_at shapes.now number)
+        (look_at path.now (shape_at shapes.now number)) ≡ found_view shapes.now result }
     ensures within { IsFoundIn (length shapes.now) result }
 {
     match find_part(shapes, number, path) {
@@ -38,8 +37,7 @@ pub(crate) fn look_up<'p>(shapes: &Shapes, number: usize, path: &'p RefPath) -> 
 /// may name nothing, counted from 0 (States Language, "Reference Paths").
 pub(crate) fn find_part(shapes: &Shapes, number: usize, path: &RefPath) -> Result<usize, usize>
     requires number { number < length shapes.now }
-    ensures found { shown (expansions shapes.now) result
-        ≡ look_at path.now (shape_at (expansions shapes.now) number) }
+    ensures found { shown shapes.now result ≡ look_at path.now (shape_at shapes.now number) }
     ensures within { IfOk result (λ part. part < length shapes.now) }
 {
     let mut part = number;
@@ -52,8 +50,8 @@ pub(crate) fn find_part(shapes: &Shapes, number: usize, path: &RefPath) -> Resul
 /// The number of the shape of what one segment names in every tree of a shape that some tree has.
 pub(crate) fn part_of(shapes: &Shapes, number: usize, segment: &Segment) -> Option<usize>
     requires number { number < length shapes.now }
-    ensures part { option_map (shape_at (expansions shapes.now)) result
-        ≡ part_at (segment_view segment.now) (shape_at (expansions shapes.now) number) }
+    ensures part { option_map (shape_at shapes.now) result
+        ≡ part_at (segment_view segment.now) (shape_at shapes.now number) }
     ensures within { IfSome result (λ part. part < length shapes.now) }
 {
     match segment {
@@ -65,8 +63,8 @@ pub(crate) fn part_of(shapes: &Shapes, number: usize, segment: &Segment) -> Opti
 /// The number of the shape of the field of that name, where each tree of the shape is an object that has it.
 fn field_of(shapes: &Shapes, number: usize, name: &String) -> Option<usize>
     requires number { number < length shapes.now }
-    ensures part { option_map (shape_at (expansions shapes.now)) result
-        ≡ part_at (Name (string_bytes name.now)) (shape_at (expansions shapes.now) number) }
+    ensures part { option_map (shape_at shapes.now) result
+        ≡ part_at (Name (string_bytes name.now)) (shape_at shapes.now number) }
     ensures within { IfSome result (λ field. field < length shapes.now) }
 {
     needed_field(objects_alone(shapes, number)?.fields, name)
@@ -75,8 +73,8 @@ fn field_of(shapes: &Shapes, number: usize, name: &String) -> Option<usize>
 /// The number of the shape of the place at an index, where each tree of the shape is a list that has it.
 pub(crate) fn place_of(shapes: &Shapes, number: usize, index: u32) -> Option<usize>
     requires number { number < length shapes.now }
-    ensures part { option_map (shape_at (expansions shapes.now)) result
-        ≡ part_at (Index index) (shape_at (expansions shapes.now) number) }
+    ensures part { option_map (shape_at shapes.now) result
+        ≡ part_at (Index index) (shape_at shapes.now number) }
     ensures within { IfSome result (λ place. place < length shapes.now) }
 {
     first_place(arrays_alone(shapes, number)?.first, index)

@@ -8,10 +8,9 @@ ghost use Rattle.asl_model.specs.Shape.{Has};
 ghost use Rattle.asl_model.specs.ShapeFlow.{built_shape, join_results, put as put_shape, put_mentioned, put_under};
 ghost use Rattle.asl_model.specs.Tree.{Tree};
 ghost use Rattle.asl_flow.specs.Counting.{counted_on};
-ghost use Rattle.asl_flow.specs.Numbers.{Shows};
 ghost use Rattle.asl_flow.specs.Putting.{Answers, mentioned};
 ghost use Rattle.asl_flow.specs.declared.putting.PutRefusal.TheVariants.{MayNotFit};
-ghost use Rattle.asl_numbered.specs.Expansion.{expansions, shape_at, IsNumberOf, Keeps};
+ghost use Rattle.asl_numbered.specs.Expansion.{shape_at, IsNumberOf, Keeps, Shows};
 ghost use Rattle.asl_path.specs.View.{segments_view};
 ghost use Rattle.asl_shape.specs.View.{view};
 
@@ -99,15 +98,12 @@ pub fn put_at(
     requires number { number < length shapes.old }
     requires placed { placed < length shapes.old }
     ensures as_defined { IfOk result
-        (λ n. put_shape path.now (shape_at (expansions shapes.old) placed)
-        (shape_at (expansions shapes.old) number)
-        ≡ Ok (shape_at (expansions shapes.new) n)) }
-    ensures number { IfOk result
-        (λ n. IsNumberOf (expansions shapes.new) (shape_at (expansions shapes.new) n) n) }
+        (λ n. put_shape path.now (shape_at shapes.old placed) (shape_at shapes.old number)
+        ≡ Ok (shape_at shapes.new n)) }
+    ensures number { IfOk result (λ n. IsNumberOf shapes.new (shape_at shapes.new n) n) }
     ensures may_not_fit { (at : ℕ) → result ≡ Err (MayNotFit at)
-        → put_shape path.now (shape_at (expansions shapes.old) placed)
-        (shape_at (expansions shapes.old) number) ≡ Err at }
-    ensures keeps { Keeps (expansions shapes.old) (expansions shapes.new) }
+        → put_shape path.now (shape_at shapes.old placed) (shape_at shapes.old number) ≡ Err at }
+    ensures keeps { Keeps shapes.old shapes.new }
 {
     let answer = put_segments(alloc, shapes, number, path.segments(), 0, placed);
     shapes.are_distinct();
@@ -128,10 +124,9 @@ fn put_segments(
     requires placed { placed < length shapes.old }
     requires countable { at + length segments.now < 2 ^ 64 }
     ensures answers { Answers shapes.new
-        (counted_on at
-        (put_shape (segments_view segments.now) (shape_at (expansions shapes.old) placed)
-        (shape_at (expansions shapes.old) number))) result }
-    ensures keeps { Keeps (expansions shapes.old) (expansions shapes.new) }
+        (counted_on at (put_shape (segments_view segments.now) (shape_at shapes.old placed)
+        (shape_at shapes.old number))) result }
+    ensures keeps { Keeps shapes.old shapes.new }
 {
     if !are_inhabited(shapes, number, placed) {
         return Ok(put_never(shapes)?);
@@ -160,13 +155,11 @@ fn put_in_object(
     requires placed { placed < length shapes.old }
     requires countable { at + length further.now + 1 < 2 ^ 64 }
     ensures answers { Answers shapes.new
-        (counted_on at
-        (put_under
-        (put_shape (segments_view further.now) (shape_at (expansions shapes.old) placed))
-        (Name (string_bytes name.now)) (segments_view further.now)
-        (shape_at (expansions shapes.old) placed)
-        (shape_at (expansions shapes.old) number))) result }
-    ensures keeps { Keeps (expansions shapes.old) (expansions shapes.new) }
+        (counted_on at (put_under
+        (put_shape (segments_view further.now) (shape_at shapes.old placed))
+        (Name (string_bytes name.now)) (segments_view further.now) (shape_at shapes.old placed)
+        (shape_at shapes.old number))) result }
+    ensures keeps { Keeps shapes.old shapes.new }
 {
     let Some(objects) = objects_alone(shapes, number) else {
         return Err(PutRefusal::MayNotFit(at));
@@ -193,12 +186,11 @@ fn put_in_field(
     requires placed { placed < length shapes.old }
     requires countable { at + length segments.now < 2 ^ 64 }
     ensures answers { Answers shapes.new
-        (counted_on at
-        (put_mentioned
-        (put_shape (segments_view segments.now) (shape_at (expansions shapes.old) placed)) extra
-        (segments_view segments.now) (shape_at (expansions shapes.old) placed)
-        (option_map (mentioned (expansions shapes.old)) field))) result }
-    ensures keeps { Keeps (expansions shapes.old) (expansions shapes.new) }
+        (counted_on at (put_mentioned
+        (put_shape (segments_view segments.now) (shape_at shapes.old placed)) extra
+        (segments_view segments.now) (shape_at shapes.old placed)
+        (option_map (mentioned shapes.old) field))) result }
+    ensures keeps { Keeps shapes.old shapes.new }
 {
     match field {
         Some(field) if field.needed => {
@@ -224,13 +216,11 @@ fn put_in_optional(
     requires placed { placed < length shapes.old }
     requires countable { at + length segments.now < 2 ^ 64 }
     ensures answers { Answers shapes.new
-        (counted_on at
-        (join_results
-        (put_shape (segments_view segments.now) (shape_at (expansions shapes.old) placed)
-        (shape_at (expansions shapes.old) number))
-        (built_shape (segments_view segments.now) (shape_at (expansions shapes.old) placed))))
-        result }
-    ensures keeps { Keeps (expansions shapes.old) (expansions shapes.new) }
+        (counted_on at (join_results
+        (put_shape (segments_view segments.now) (shape_at shapes.old placed)
+        (shape_at shapes.old number))
+        (built_shape (segments_view segments.now) (shape_at shapes.old placed)))) result }
+    ensures keeps { Keeps shapes.old shapes.new }
 {
     let changed = put_segments(alloc, shapes, number, segments, at, placed)?;
     let built = build(alloc, shapes, segments, at, placed)?;
@@ -252,12 +242,11 @@ fn put_in_list(
     requires placed { placed < length shapes.old }
     requires countable { at + length further.now + 1 < 2 ^ 64 }
     ensures answers { Answers shapes.new
-        (counted_on at
-        (put_under
-        (put_shape (segments_view further.now) (shape_at (expansions shapes.old) placed))
-        (Index index) (segments_view further.now) (shape_at (expansions shapes.old) placed)
-        (shape_at (expansions shapes.old) number))) result }
-    ensures keeps { Keeps (expansions shapes.old) (expansions shapes.new) }
+        (counted_on at (put_under
+        (put_shape (segments_view further.now) (shape_at shapes.old placed))
+        (Index index) (segments_view further.now) (shape_at shapes.old placed)
+        (shape_at shapes.old number))) result }
+    ensures keeps { Keeps shapes.old shapes.new }
 {
     let Some(place) = place_of(shapes, number, index) else {
         return Err(PutRefusal::MayNotFit(at));
@@ -278,10 +267,9 @@ fn build(
     requires placed { placed < length shapes.old }
     requires countable { at + length segments.now < 2 ^ 64 }
     ensures answers { Answers shapes.new
-        (counted_on at
-        (built_shape (segments_view segments.now) (shape_at (expansions shapes.old) placed)))
+        (counted_on at (built_shape (segments_view segments.now) (shape_at shapes.old placed)))
         result }
-    ensures keeps { Keeps (expansions shapes.old) (expansions shapes.new) }
+    ensures keeps { Keeps shapes.old shapes.new }
 {
     let [segment, further @ ..] = segments else {
         return Ok(placed);
@@ -304,11 +292,10 @@ fn put_around(
 ) -> Result<usize, OutOfMemory>
     requires number { number < length shapes.old }
     ensures shown { IfOk result
-        (Shows shapes.new
-        (model.ObjectShape
-        (model.AndFieldShape (string_bytes name.now) true (shape_at (expansions shapes.old) number)
+        (Shows shapes.new (model.ObjectShape
+        (model.AndFieldShape (string_bytes name.now) true (shape_at shapes.old number)
         model.NoFieldShapes) false)) }
-    ensures keeps { Keeps (expansions shapes.old) (expansions shapes.new) }
+    ensures keeps { Keeps shapes.old shapes.new }
 {
     let field = NodeField {
         needed: true,

@@ -4,7 +4,7 @@ ghost use Rattle.asl_flow.specs.Items.{item_view};
 ghost use Rattle.asl_flow.specs.Sources.{input_of, item_of, IsWithin, IsPart};
 ghost use Rattle.asl_model.specs.Intrinsic.{InInput, ItemIndex, InItem};
 ghost use Rattle.asl_model.specs.ShapeFlow.{found, or_missing, reference_shape};
-ghost use Rattle.asl_numbered.specs.Expansion.{expansions, shape_at, Keeps};
+ghost use Rattle.asl_numbered.specs.Expansion.{shape_at, Keeps};
 ghost use Rattle.asl_shape.specs.View.{view};
 
 use crate::doubts::Cause;
@@ -35,8 +35,8 @@ impl Sources {
         item: Option<&Shape>,
     ) -> Result<Sources, OutOfMemory>
         ensures within { IfOk result (IsWithin (length shapes.new)) }
-        ensures input { IfOk result (λ s. input_of (expansions shapes.new) s ≡ view input.now) }
-        ensures item { IfOk result (λ s. item_of (expansions shapes.new) s ≡ item_view item.entry) }
+        ensures input { IfOk result (λ s. input_of shapes.new s ≡ view input.now) }
+        ensures item { IfOk result (λ s. item_of shapes.new s ≡ item_view item.entry) }
     {
         let item = add_item(shapes, item)?;
         let input = shapes.add(input)?;
@@ -51,22 +51,20 @@ impl Sources {
     ) -> Result<Part<'p>, OutOfMemory>
         requires within { IsWithin (length shapes.old) self }
         ensures part { IfOk result
-            (IsPart shapes.new
-            (reference_shape (InInput path.now) (input_of (expansions shapes.old) self)
-            (item_of (expansions shapes.old) self))) }
-        ensures keeps { Keeps (expansions shapes.old) (expansions shapes.new) }
+            (IsPart shapes.new (reference_shape (InInput path.now) (input_of shapes.old self)
+            (item_of shapes.old self))) }
+        ensures keeps { Keeps shapes.old shapes.new }
     {
         named_part(shapes, self.input, path)
     }
 
     /// The number of the shape of the item's number.
-    #[tactic(auto, using(asl_numbered::proofs::Expansions::simple_refers, asl_numbered::proofs::Expansions::keeps_same))]
+    #[tactic(auto, using(asl_numbered::proofs::Expansions::simple_refers, asl_numbered::specs::Laws::keeps_same))]
     pub(crate) fn item_index<'p>(self, shapes: &mut Shapes) -> Result<Part<'p>, OutOfMemory>
         ensures part { IfOk result
-            (IsPart shapes.new
-            (reference_shape ItemIndex (input_of (expansions shapes.old) self)
-            (item_of (expansions shapes.old) self))) }
-        ensures keeps { Keeps (expansions shapes.old) (expansions shapes.new) }
+            (IsPart shapes.new (reference_shape ItemIndex (input_of shapes.old self)
+            (item_of shapes.old self))) }
+        ensures keeps { Keeps shapes.old shapes.new }
     {
         match self.item {
             Some(_) => Ok(Ok(put_node(shapes, Node::Int)?)),
@@ -75,7 +73,7 @@ impl Sources {
     }
 
     /// The number of the shape of what a path names in the item.
-    #[tactic(auto, using(asl_numbered::proofs::Expansions::keeps_same))]
+    #[tactic(auto, using(asl_numbered::specs::Laws::keeps_same))]
     pub(crate) fn in_item<'p>(
         self,
         shapes: &mut Shapes,
@@ -83,10 +81,9 @@ impl Sources {
     ) -> Result<Part<'p>, OutOfMemory>
         requires within { IsWithin (length shapes.old) self }
         ensures part { IfOk result
-            (IsPart shapes.new
-            (reference_shape (InItem path.now) (input_of (expansions shapes.old) self)
-            (item_of (expansions shapes.old) self))) }
-        ensures keeps { Keeps (expansions shapes.old) (expansions shapes.new) }
+            (IsPart shapes.new (reference_shape (InItem path.now) (input_of shapes.old self)
+            (item_of shapes.old self))) }
+        ensures keeps { Keeps shapes.old shapes.new }
     {
         let Some(item) = self.item else {
             return Ok(Err(Cause::MayFail));
@@ -96,11 +93,9 @@ impl Sources {
 }
 
 /// The number of the item's shape, where there is one.
-#[tactic(auto, using(crate::proofs::Numbered::number_within))]
 fn add_item(shapes: &mut Shapes, item: Option<&Shape>) -> Result<Option<usize>, OutOfMemory>
     ensures within { IfOk result (λ r. IfSome r (λ n. n < length shapes.new)) }
-    ensures shape { IfOk result
-        (λ r. option_map (shape_at (expansions shapes.new)) r ≡ item_view item.entry) }
+    ensures shape { IfOk result (λ r. option_map (shape_at shapes.new) r ≡ item_view item.entry) }
 {
     match item {
         Some(item) => Ok(Some(shapes.add(item)?)),
@@ -116,9 +111,8 @@ fn named_part<'p>(
 ) -> Result<Part<'p>, OutOfMemory>
     requires number { number < length shapes.old }
     ensures part { IfOk result
-        (IsPart shapes.new
-        (or_missing (found path.now (shape_at (expansions shapes.old) number)))) }
-    ensures keeps { Keeps (expansions shapes.old) (expansions shapes.new) }
+        (IsPart shapes.new (or_missing (found path.now (shape_at shapes.old number)))) }
+    ensures keeps { Keeps shapes.old shapes.new }
 {
     match find_at(shapes, number, path)? {
         Ok(part) => Ok(Ok(part)),

@@ -2,8 +2,7 @@
 
 ghost use Rattle.std.specs.Prelude.{◌<◌, IfOk, length, string_bytes};
 ghost use Rattle.asl_flow.specs.Changing.{with_field as changed_field, with_place as changed_place, AreWithField, AreWithPlace};
-ghost use Rattle.asl_flow.specs.Numbers.{Shows};
-ghost use Rattle.asl_numbered.specs.Expansion.{expansions, shape_at, Keeps};
+ghost use Rattle.asl_numbered.specs.Expansion.{shape_at, Keeps, Shows};
 
 use crate::composing::set_field;
 use crate::kinds::{arrays_of, objects_of};
@@ -25,10 +24,9 @@ pub(crate) fn put_field(
     requires number { number < length shapes.old }
     requires field { field < length shapes.old }
     ensures shown { IfOk result
-        (Shows shapes.new
-        (changed_field (string_bytes name.now) (shape_at (expansions shapes.old) field)
-        (shape_at (expansions shapes.old) number))) }
-    ensures keeps { Keeps (expansions shapes.old) (expansions shapes.new) }
+        (Shows shapes.new (changed_field (string_bytes name.now) (shape_at shapes.old field)
+        (shape_at shapes.old number))) }
+    ensures keeps { Keeps shapes.old shapes.new }
 {
     shapes.are_proper();
     let Some(objects) = objects_of(shapes, number) else {
@@ -55,10 +53,9 @@ pub(crate) fn put_place(
     requires number { number < length shapes.old }
     requires place { place < length shapes.old }
     ensures shown { IfOk result
-        (Shows shapes.new
-        (changed_place index (shape_at (expansions shapes.old) place)
-        (shape_at (expansions shapes.old) number))) }
-    ensures keeps { Keeps (expansions shapes.old) (expansions shapes.new) }
+        (Shows shapes.new (changed_place index (shape_at shapes.old place)
+        (shape_at shapes.old number))) }
+    ensures keeps { Keeps shapes.old shapes.new }
 {
     let Some(arrays) = arrays_of(shapes, number) else {
         return Ok(number);

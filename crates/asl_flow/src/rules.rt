@@ -7,7 +7,7 @@ ghost use Rattle.asl_model.specs.Shape.{Has};
 ghost use Rattle.asl_model.specs.ShapeFlow as model;
 ghost use Rattle.asl_model.specs.Test.{truth};
 ghost use Rattle.asl_model.specs.Tree as trees;
-ghost use Rattle.asl_numbered.specs.Expansion.{expansions, shape_at, IsNumberOf, Keeps};
+ghost use Rattle.asl_numbered.specs.Expansion.{shape_at, IsNumberOf, Keeps};
 ghost use Rattle.asl_shape.specs.View.{view};
 
 use crate::counterexamples::counterexample_at;
@@ -76,18 +76,16 @@ pub fn rule_shape_at(
 ) -> Result<usize, RuleShapeRefusal>
     requires number { number < length shapes.old }
     ensures as_defined { IfOk result
-        (λ n. model.rule_shape (test_view test.now) (shape_at (expansions shapes.old) number)
-        ≡ Ok (shape_at (expansions shapes.new) n)) }
-    ensures number { IfOk result
-        (λ n. IsNumberOf (expansions shapes.new) (shape_at (expansions shapes.new) n) n) }
+        (λ n. model.rule_shape (test_view test.now) (shape_at shapes.old number)
+        ≡ Ok (shape_at shapes.new n)) }
+    ensures number { IfOk result (λ n. IsNumberOf shapes.new (shape_at shapes.new n) n) }
     ensures decided { IfOk result
-        (λ n. (t : trees.Tree) → Has (shape_at (expansions shapes.old) number) t
+        (λ n. (t : trees.Tree) → Has (shape_at shapes.old number) t
         → (b : Bool) × (truth (test_view test.now) t ≡ Some b)
-        × (IsTrue b → Has (shape_at (expansions shapes.new) n) t)) }
+        × (IsTrue b → Has (shape_at shapes.new n) t)) }
     ensures refused { IfErr result
-        (IsRefused
-        (model.rule_shape (test_view test.now) (shape_at (expansions shapes.old) number))) }
-    ensures keeps { Keeps (expansions shapes.old) (expansions shapes.new) }
+        (IsRefused (model.rule_shape (test_view test.now) (shape_at shapes.old number))) }
+    ensures keeps { Keeps shapes.old shapes.new }
 {
     rule_shape_means_decided();
     match let_through_at(alloc, shapes, test, number)? {
@@ -109,13 +107,12 @@ pub fn let_through_at<'p>(
 ) -> Result<Found<'p>, OutOfMemory>
     requires number { number < length shapes.old }
     ensures as_defined { IfOk result
-        (λ answer. model.rule_shape (test_view test.now) (shape_at (expansions shapes.old) number)
-        ≡ found_view (expansions shapes.new) answer) }
+        (λ answer. model.rule_shape (test_view test.now) (shape_at shapes.old number)
+        ≡ found_view shapes.new answer) }
     ensures within { IfOk result (IsFoundIn (length shapes.new)) }
     ensures number { IfOk result
-        (λ answer. IfOk answer
-        (λ n. IsNumberOf (expansions shapes.new) (shape_at (expansions shapes.new) n) n)) }
-    ensures keeps { Keeps (expansions shapes.old) (expansions shapes.new) }
+        (λ answer. IfOk answer (λ n. IsNumberOf shapes.new (shape_at shapes.new n) n)) }
+    ensures keeps { Keeps shapes.old shapes.new }
 {
     let answer = narrow_inhabited(alloc, shapes, test, number)?;
     shapes.are_distinct();
@@ -132,10 +129,10 @@ fn narrow_inhabited<'p>(
 ) -> Result<Found<'p>, OutOfMemory>
     requires number { number < length shapes.old }
     ensures as_defined { IfOk result
-        (λ answer. model.rule_shape (test_view test.now) (shape_at (expansions shapes.old) number)
-        ≡ found_view (expansions shapes.new) answer) }
+        (λ answer. model.rule_shape (test_view test.now) (shape_at shapes.old number)
+        ≡ found_view shapes.new answer) }
     ensures within { IfOk result (IsFoundIn (length shapes.new)) }
-    ensures keeps { Keeps (expansions shapes.old) (expansions shapes.new) }
+    ensures keeps { Keeps shapes.old shapes.new }
 {
     if !is_inhabited(shapes, number) {
         return Ok(Ok(put_never(shapes)?));
@@ -153,10 +150,10 @@ fn narrow<'p>(
 ) -> Result<Found<'p>, OutOfMemory>
     requires number { number < length shapes.old }
     ensures as_defined { IfOk result
-        (λ answer. model.true_of (test_view test.now) (shape_at (expansions shapes.old) number)
-        ≡ found_view (expansions shapes.new) answer) }
+        (λ answer. model.true_of (test_view test.now) (shape_at shapes.old number)
+        ≡ found_view shapes.new answer) }
     ensures within { IfOk result (IsFoundIn (length shapes.new)) }
-    ensures keeps { Keeps (expansions shapes.old) (expansions shapes.new) }
+    ensures keeps { Keeps shapes.old shapes.new }
 {
     match test {
         Test::And(tests) => narrow_by_all(alloc, shapes, tests, number),
@@ -193,11 +190,10 @@ fn narrow_by_all<'p>(
 ) -> Result<Found<'p>, OutOfMemory>
     requires number { number < length shapes.old }
     ensures as_defined { IfOk result
-        (λ answer. model.each_true_of (tests_view tests.now)
-        (shape_at (expansions shapes.old) number)
-        ≡ found_view (expansions shapes.new) answer) }
+        (λ answer. model.each_true_of (tests_view tests.now) (shape_at shapes.old number)
+        ≡ found_view shapes.new answer) }
     ensures within { IfOk result (IsFoundIn (length shapes.new)) }
-    ensures keeps { Keeps (expansions shapes.old) (expansions shapes.new) }
+    ensures keeps { Keeps shapes.old shapes.new }
 {
     let mut narrowed = number;
     for test in tests {
@@ -220,11 +216,10 @@ fn check_all<'p>(
     requires number { number < length shapes.old }
     ensures as_defined { IfOk result
         (λ answer. model.where_found
-        (model.each_found (tests_view tests.now) (shape_at (expansions shapes.old) number))
-        (Ok (shape_at (expansions shapes.old) number))
-        ≡ found_view (expansions shapes.new) answer) }
+        (model.each_found (tests_view tests.now) (shape_at shapes.old number))
+        (Ok (shape_at shapes.old number)) ≡ found_view shapes.new answer) }
     ensures within { IfOk result (IsFoundIn (length shapes.new)) }
-    ensures keeps { Keeps (expansions shapes.old) (expansions shapes.new) }
+    ensures keeps { Keeps shapes.old shapes.new }
 {
     for test in tests {
         match check(alloc, shapes, test, number)? {
@@ -247,11 +242,10 @@ fn check<'p>(
     requires number { number < length shapes.old }
     ensures as_defined { IfOk result
         (λ answer. model.where_found
-        (model.true_of (test_view test.now) (shape_at (expansions shapes.old) number))
-        (Ok (shape_at (expansions shapes.old) number))
-        ≡ found_view (expansions shapes.new) answer) }
+        (model.true_of (test_view test.now) (shape_at shapes.old number))
+        (Ok (shape_at shapes.old number)) ≡ found_view shapes.new answer) }
     ensures within { IfOk result (IsFoundIn (length shapes.new)) }
-    ensures keeps { Keeps (expansions shapes.old) (expansions shapes.new) }
+    ensures keeps { Keeps shapes.old shapes.new }
 {
     match test {
         Test::IsPresent { .. } => Ok(Ok(number)),
@@ -271,9 +265,8 @@ fn check<'p>(
 fn keep_if_found<'p>(shapes: &Shapes, number: usize, path: &'p RefPath) -> Found<'p>
     requires number { number < length shapes.now }
     ensures as_defined { model.where_found
-        (model.found path.now (shape_at (expansions shapes.now) number))
-        (Ok (shape_at (expansions shapes.now) number))
-        ≡ found_view (expansions shapes.now) result }
+        (model.found path.now (shape_at shapes.now number)) (Ok (shape_at shapes.now number))
+        ≡ found_view shapes.now result }
     ensures within { IsFoundIn (length shapes.now) result }
 {
     if !is_inhabited(shapes, number) {
@@ -294,11 +287,9 @@ fn keep_if_compared<'p>(
 ) -> Found<'p>
     requires number { number < length shapes.now }
     ensures as_defined { model.where_found
-        (model.found path.now (shape_at (expansions shapes.now) number))
-        (model.where_found
-        (model.operand_shape (operand_view operand.now) (shape_at (expansions shapes.now) number))
-        (Ok (shape_at (expansions shapes.now) number)))
-        ≡ found_view (expansions shapes.now) result }
+        (model.found path.now (shape_at shapes.now number)) (model.where_found
+        (model.operand_shape (operand_view operand.now) (shape_at shapes.now number))
+        (Ok (shape_at shapes.now number))) ≡ found_view shapes.now result }
     ensures within { IsFoundIn (length shapes.now) result }
 {
     match keep_if_found(shapes, number, path) {
@@ -311,9 +302,8 @@ fn keep_if_compared<'p>(
 fn keep_if_operand<'p>(shapes: &Shapes, number: usize, operand: &'p Operand) -> Found<'p>
     requires number { number < length shapes.now }
     ensures as_defined { model.where_found
-        (model.operand_shape (operand_view operand.now) (shape_at (expansions shapes.now) number))
-        (Ok (shape_at (expansions shapes.now) number))
-        ≡ found_view (expansions shapes.now) result }
+        (model.operand_shape (operand_view operand.now) (shape_at shapes.now number))
+        (Ok (shape_at shapes.now number)) ≡ found_view shapes.now result }
     ensures within { IsFoundIn (length shapes.now) result }
 {
     match operand {

@@ -6,7 +6,7 @@ ghost use Rattle.asl_flow.specs.Settling.{IsAsked, question_at};
 ghost use Rattle.asl_model.specs.Path.{Segment};
 ghost use Rattle.asl_model.specs.ShapeFlow as model;
 ghost use Rattle.asl_model.specs.Test.{as_boolean};
-ghost use Rattle.asl_numbered.specs.Expansion.{expansions, shape_at};
+ghost use Rattle.asl_numbered.specs.Expansion.{shape_at};
 ghost use Rattle.asl_states.specs.Machine.{choice_rule_view};
 ghost use Rattle.asl_tree.specs.View as trees;
 
@@ -60,7 +60,7 @@ pub fn settles_at(
     requires number { number < length shapes.now }
     ensures as_defined { IfOk result
         (λ b. b ≡ model.is_settled (map choice_rule_view choices.now)
-        (shape_at (expansions shapes.now) number)) }
+        (shape_at shapes.now number)) }
 {
     let mut answers = IndexMap::new(alloc);
     for choice in choices {
@@ -84,8 +84,7 @@ fn asked_by(
     number: usize,
 ) -> Result<Option<(Question, bool)>, OutOfMemory>
     requires number { number < length shapes.now }
-    ensures { IfOk result
-        (IsAsked (model.asks (shape_at (expansions shapes.now) number) (test_view test.now))) }
+    ensures { IfOk result (IsAsked (model.asks (shape_at shapes.now number) (test_view test.now))) }
 {
     match test {
         Test::IsPresent { variable, wanted } => ask(alloc, Asks::Presence, variable, *wanted),
@@ -159,8 +158,7 @@ fn truth_value(tree: &Tree) -> Option<bool>
 /// Whether the path names truth values alone in the trees of the shape of that number.
 fn finds_booleans(shapes: &Shapes, number: usize, path: &RefPath) -> bool
     requires number { number < length shapes.now }
-    ensures { result
-        ≡ model.finds_booleans (model.look path.now (shape_at (expansions shapes.now) number)) }
+    ensures { result ≡ model.finds_booleans (model.look path.now (shape_at shapes.now number)) }
 {
     match find_part(shapes, number, path) {
         Ok(part) => is_inhabited(shapes, number) && is_only_booleans(shapes, part),

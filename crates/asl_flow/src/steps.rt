@@ -3,7 +3,7 @@ ghost use Rattle.std.specs.Prelude.{◌<◌, IfOk, length, option_map};
 ghost use Rattle.asl_flow.specs.Leaving.{FlowsTo};
 ghost use Rattle.asl_flow.specs.Sources.{input_of, item_of, IsWithin};
 ghost use Rattle.asl_model.specs.ShapeFlow as model;
-ghost use Rattle.asl_numbered.specs.Expansion.{expansions, shape_at, Keeps};
+ghost use Rattle.asl_numbered.specs.Expansion.{shape_at, Keeps};
 ghost use Rattle.asl_template.specs.View as templates;
 
 use crate::composing::closed_object;
@@ -29,9 +29,8 @@ pub(crate) fn through_path<'p>(
 ) -> Result<Flow<'p>, OutOfMemory>
     requires number { number < length shapes.old }
     ensures flows { IfOk result
-        (FlowsTo shapes.new
-        (model.through_path field.now path.now (shape_at (expansions shapes.old) number))) }
-    ensures keeps { Keeps (expansions shapes.old) (expansions shapes.new) }
+        (FlowsTo shapes.new (model.through_path field.now path.now (shape_at shapes.old number))) }
+    ensures keeps { Keeps shapes.old shapes.new }
 {
     match path {
         None if is_inhabited(shapes, number) => {
@@ -57,8 +56,8 @@ pub(crate) fn through_template<'p>(
     ensures flows { IfOk result
         (FlowsTo shapes.new
         (model.through_template field.now (option_map templates.view template.now)
-        (shape_at (expansions shapes.old) input))) }
-    ensures keeps { Keeps (expansions shapes.old) (expansions shapes.new) }
+        (shape_at shapes.old input))) }
+    ensures keeps { Keeps shapes.old shapes.new }
 {
     match template {
         None => Ok(Ok(input)),
@@ -79,11 +78,10 @@ pub(crate) fn fill<'p>(
 ) -> Result<Flow<'p>, OutOfMemory>
     requires within { IsWithin (length shapes.old) sources }
     ensures flows { IfOk result
-        (FlowsTo shapes.new
-        (model.template_flow field.now
+        (FlowsTo shapes.new (model.template_flow field.now
         (model.template_shape (templates.view template.now)
-        (input_of (expansions shapes.old) sources) (item_of (expansions shapes.old) sources)))) }
-    ensures keeps { Keeps (expansions shapes.old) (expansions shapes.new) }
+        (input_of shapes.old sources) (item_of shapes.old sources)))) }
+    ensures keeps { Keeps shapes.old shapes.new }
 {
     fill_at(alloc, shapes, field, template, sources)
 }

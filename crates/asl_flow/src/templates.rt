@@ -2,7 +2,6 @@
 ghost use Rattle.std.specs.Prelude.{[], ◌<◌, ◌∷◌, ◌≡◌, Err, IfErr, IfOk, IfSome, List, Ok, OnOk, Option, Result, length, option_map};
 ghost use Rattle.asl_flow.specs.Doubts.{IsCauseIn, IsFlowIn};
 ghost use Rattle.asl_flow.specs.Items.{item_view};
-ghost use Rattle.asl_flow.specs.Numbers.{Shows};
 ghost use Rattle.asl_flow.specs.Sources.{input_of, item_of, IsPart, IsWithin};
 ghost use Rattle.asl_flow.specs.TemplateAnswer.{told_at, named_fault, ArePutDown, IsDoubted, IsFilled};
 ghost use Rattle.asl_intrinsic.specs.View as calls;
@@ -12,7 +11,7 @@ ghost use Rattle.asl_model.specs.Shape.{Shape as ModelShape, Has};
 ghost use Rattle.asl_model.specs.ShapeFlow as model;
 ghost use Rattle.asl_model.specs.Template.{template_value};
 ghost use Rattle.asl_model.specs.Tree as trees;
-ghost use Rattle.asl_numbered.specs.Expansion.{expansions, shape_at, IsNumberOf, AreNumbersOf, AreFieldsOf, Keeps};
+ghost use Rattle.asl_numbered.specs.Expansion.{shape_at, IsNumberOf, AreNumbersOf, AreFieldsOf, Keeps, Shows};
 ghost use Rattle.asl_shape.specs.View.{view};
 ghost use Rattle.asl_template.specs.View as templates;
 
@@ -118,18 +117,13 @@ pub fn template_shape_at(
     requires input { input < length shapes.old }
     requires item { IfSome item (λ n. n < length shapes.old) }
     ensures as_defined { IfOk result
-        (λ n. model.template_shape (templates.view template.now)
-        (shape_at (expansions shapes.old) input)
-        (option_map (shape_at (expansions shapes.old)) item)
-        ≡ Ok (shape_at (expansions shapes.new) n)) }
-    ensures number { IfOk result
-        (λ n. IsNumberOf (expansions shapes.new) (shape_at (expansions shapes.new) n) n) }
+        (λ n. model.template_shape (templates.view template.now) (shape_at shapes.old input)
+        (option_map (shape_at shapes.old) item) ≡ Ok (shape_at shapes.new n)) }
+    ensures number { IfOk result (λ n. IsNumberOf shapes.new (shape_at shapes.new n) n) }
     ensures refused { IfErr result
-        (IsDoubted
-        (model.template_shape (templates.view template.now)
-        (shape_at (expansions shapes.old) input)
-        (option_map (shape_at (expansions shapes.old)) item))) }
-    ensures keeps { Keeps (expansions shapes.old) (expansions shapes.new) }
+        (IsDoubted (model.template_shape (templates.view template.now) (shape_at shapes.old input)
+        (option_map (shape_at shapes.old) item))) }
+    ensures keeps { Keeps shapes.old shapes.new }
 {
     let sources = Sources { input, item };
     let filled = fill_at(alloc, shapes, "", template, sources)?;
@@ -152,11 +146,10 @@ pub(crate) fn fill_at<'p>(
 ) -> Result<Flow<'p>, OutOfMemory>
     requires within { IsWithin (length shapes.old) sources }
     ensures filled { IfOk result
-        (IsFilled (expansions shapes.new) field.now
-        (model.template_shape (templates.view template.now)
-        (input_of (expansions shapes.old) sources) (item_of (expansions shapes.old) sources))) }
+        (IsFilled shapes.new field.now (model.template_shape (templates.view template.now)
+        (input_of shapes.old sources) (item_of shapes.old sources))) }
     ensures within { IfOk result (IsFlowIn (length shapes.new)) }
-    ensures keeps { Keeps (expansions shapes.old) (expansions shapes.new) }
+    ensures keeps { Keeps shapes.old shapes.new }
 {
     if !is_inhabited(shapes, sources.input) {
         return Ok(Ok(put_never(shapes)?));
@@ -192,14 +185,14 @@ fn filled_shape<'p>(
     requires within { IsWithin (length shapes.old) sources }
     ensures filled { IfOk result
         (Shows shapes.new
-        (model.filled_shape (templates.view template.now) (input_of (expansions shapes.old) sources)
-        (item_of (expansions shapes.old) sources))) }
+        (model.filled_shape (templates.view template.now) (input_of shapes.old sources)
+        (item_of shapes.old sources))) }
     ensures doubted { OnOk result
         (ArePutDown shapes.new place.entry.field.now
         (model.doubts (templates.view template.now) place.entry.name.now
-        (input_of (expansions shapes.old) sources) (item_of (expansions shapes.old) sources))
+        (input_of shapes.old sources) (item_of shapes.old sources))
         doubts.old.items doubts.new.items) }
-    ensures keeps { Keeps (expansions shapes.old) (expansions shapes.new) }
+    ensures keeps { Keeps shapes.old shapes.new }
 {
     match template {
         Template::Literal(tree) => own_shape(alloc, shapes, tree),
@@ -242,16 +235,14 @@ fn element_shapes<'p>(
 ) -> Result<Vec<usize>, OutOfMemory>
     requires within { IsWithin (length shapes.old) sources }
     ensures filled { IfOk result
-        (λ v. AreNumbersOf (expansions shapes.new)
-        (model.filled_elements (templates.elements_view elements.now)
-        (input_of (expansions shapes.old) sources) (item_of (expansions shapes.old) sources))
-        v.items) }
+        (λ v. AreNumbersOf shapes.new (model.filled_elements (templates.elements_view elements.now)
+        (input_of shapes.old sources) (item_of shapes.old sources)) v.items) }
     ensures doubted { OnOk result
         (ArePutDown shapes.new place.entry.field.now
         (model.element_doubts (templates.elements_view elements.now) place.entry.name.now
-        (input_of (expansions shapes.old) sources) (item_of (expansions shapes.old) sources))
+        (input_of shapes.old sources) (item_of shapes.old sources))
         doubts.old.items doubts.new.items) }
-    ensures keeps { Keeps (expansions shapes.old) (expansions shapes.new) }
+    ensures keeps { Keeps shapes.old shapes.new }
 {
     let mut numbers = Vec::with_capacity(alloc, elements.len())?;
     for element in elements {
@@ -274,16 +265,15 @@ fn field_shapes<'p>(
 ) -> Result<BTreeMap<String, NodeField>, OutOfMemory>
     requires within { IsWithin (length shapes.old) sources }
     ensures filled { IfOk result
-        (λ m. AreFieldsOf (expansions shapes.new)
+        (λ m. AreFieldsOf shapes.new
         (model.filled_fields (templates.entries_view fields.now.entries)
-        (input_of (expansions shapes.old) sources) (item_of (expansions shapes.old) sources))
-        m.entries) }
+        (input_of shapes.old sources) (item_of shapes.old sources)) m.entries) }
     ensures doubted { OnOk result
         (ArePutDown shapes.new field.now
         (model.field_doubts (templates.entries_view fields.now.entries)
-        (input_of (expansions shapes.old) sources) (item_of (expansions shapes.old) sources))
+        (input_of shapes.old sources) (item_of shapes.old sources))
         doubts.old.items doubts.new.items) }
-    ensures keeps { Keeps (expansions shapes.old) (expansions shapes.new) }
+    ensures keeps { Keeps shapes.old shapes.new }
 {
     let mut mentions = BTreeMap::new(alloc);
     for (name, template) in fields.iter() {
@@ -310,7 +300,7 @@ fn part_or_never<'p>(
         → OnOk result
         (ArePutDown shapes.new place.entry.field.now (model.doubts_at place.entry.name.now whole)
         doubts.old.items doubts.new.items) }
-    ensures keeps { Keeps (expansions shapes.old) (expansions shapes.new) }
+    ensures keeps { Keeps shapes.old shapes.new }
 {
     match part {
         Ok(number) => Ok(number),
@@ -331,9 +321,9 @@ fn refusal_of(
     requires cause { IsCauseIn shapes.old doubt.cause }
     ensures told { IfOk result
         (λ refusal. (field : FieldName) (told : FieldName × model.Doubt)
-        → told_at field told ≡ named_fault (expansions shapes.old) doubt.entry
+        → told_at field told ≡ named_fault shapes.old doubt.entry
         → IsDoubted (Err (told ∷ [])) refusal) }
-    ensures keeps { Keeps (expansions shapes.old) (expansions shapes.new) }
+    ensures keeps { Keeps shapes.old shapes.new }
 {
     let name = String::from_str(alloc, doubt.name)?;
     match doubt.cause {

@@ -8,7 +8,7 @@ use Rattle.asl_model.specs.Numbering.{Table}
 use Rattle.asl_draft_laws.specs.Drafts.{Draft, Row, walked}
 use Rattle.asl_draft_laws.specs.Resting.{Rests}
 use Rattle.asl_draft_laws.proofs.PassedOver.{rests-known, rests-walked}
-use Rattle.asl_numbered.specs.Expansion.{expansions, Keeps}
+use Rattle.asl_numbered.specs.Expansion.{Keeps}
 use Rattle.asl_drafts.specs.Calm.{IsCalm, memory_of}
 use Rattle.asl_drafts.specs.Drafted.{draft_view}
 use Rattle.asl_drafts.specs.Order.{AreOrdered}
@@ -65,23 +65,23 @@ all-many (suc count) = ap suc (all-many count)
 
 module _ (table : Table) (declared : Declared) (row : Row) where
   -- in a draft of the same shapes, over a table that has grown
-  pub calm-kept : (one two : Walker) → Keeps (expansions one.draft.store) (expansions two.draft.store) → draft_view two.draft ≡ draft_view one.draft → two.predecessors ≡ one.predecessors → waits_in two.waiting.waits.items row.number ≡ waits_in one.waiting.waits.items row.number → IsCalm table declared row one → IsCalm table declared row two
+  pub calm-kept : (one two : Walker) → Keeps one.draft.store two.draft.store → draft_view two.draft ≡ draft_view one.draft → two.predecessors ≡ one.predecessors → waits_in two.waiting.waits.items row.number ≡ waits_in one.waiting.waits.items row.number → IsCalm table declared row one → IsCalm table declared row two
   calm-kept one two keeps same remembers waits is = record { calm = by is.calm }
     where
-      rested : Rests table declared row (memory_of (expansions one.draft.store) one.predecessors) (draft_view one.draft) → Rests table declared row (memory_of (expansions two.draft.store) two.predecessors) (draft_view two.draft)
+      rested : Rests table declared row (memory_of one.draft.store one.predecessors) (draft_view one.draft) → Rests table declared row (memory_of two.draft.store two.predecessors) (draft_view two.draft)
       rested rest =
-          let more = rests-known table declared row (memory_of (expansions one.draft.store) one.predecessors) (memory_of (expansions two.draft.store) one.predecessors) (draft_view one.draft) (λ into place s h. remembered (expansions one.draft.store) (expansions two.draft.store) one.predecessors into row.number place s keeps h) rest in
-          subst (λ p. Rests table declared row (memory_of (expansions two.draft.store) p) (draft_view two.draft)) (sym remembers) (subst (Rests table declared row (memory_of (expansions two.draft.store) one.predecessors)) (sym same) more)
+          let more = rests-known table declared row (memory_of one.draft.store one.predecessors) (memory_of two.draft.store one.predecessors) (draft_view one.draft) (λ into place s h. remembered one.draft.store two.draft.store one.predecessors into row.number place s keeps h) rest in
+          subst (λ p. Rests table declared row (memory_of two.draft.store p) (draft_view two.draft)) (sym remembers) (subst (Rests table declared row (memory_of two.draft.store one.predecessors)) (sym same) more)
 
-      by : (waits_in one.waiting.waits.items row.number ≡ true) ⊎ Rests table declared row (memory_of (expansions one.draft.store) one.predecessors) (draft_view one.draft) → (waits_in two.waiting.waits.items row.number ≡ true) ⊎ Rests table declared row (memory_of (expansions two.draft.store) two.predecessors) (draft_view two.draft)
+      by : (waits_in one.waiting.waits.items row.number ≡ true) ⊎ Rests table declared row (memory_of one.draft.store one.predecessors) (draft_view one.draft) → (waits_in two.waiting.waits.items row.number ≡ true) ⊎ Rests table declared row (memory_of two.draft.store two.predecessors) (draft_view two.draft)
       by (inl w) = inl (waits ∙ w)
       by (inr rest) = inr (rested rest)
 
   -- one that doesn't wait is at rest
-  pub calm-rests : (walker : Walker) → waits_in walker.waiting.waits.items row.number ≡ false → IsCalm table declared row walker → Rests table declared row (memory_of (expansions walker.draft.store) walker.predecessors) (draft_view walker.draft)
+  pub calm-rests : (walker : Walker) → waits_in walker.waiting.waits.items row.number ≡ false → IsCalm table declared row walker → Rests table declared row (memory_of walker.draft.store walker.predecessors) (draft_view walker.draft)
   calm-rests walker none is = by is.calm
     where
-      by : (waits_in walker.waiting.waits.items row.number ≡ true) ⊎ Rests table declared row (memory_of (expansions walker.draft.store) walker.predecessors) (draft_view walker.draft) → Rests table declared row (memory_of (expansions walker.draft.store) walker.predecessors) (draft_view walker.draft)
+      by : (waits_in walker.waiting.waits.items row.number ≡ true) ⊎ Rests table declared row (memory_of walker.draft.store walker.predecessors) (draft_view walker.draft) → Rests table declared row (memory_of walker.draft.store walker.predecessors) (draft_view walker.draft)
       by (inl w) = absurd (false≢true (sym none ∙ w))
       by (inr rest) = rest
 
@@ -105,7 +105,7 @@ module _ (table : Table) (declared : Declared) where
   }
 
   -- the flag of one is cleared
-  pub stop-calm : (one two : Walker) (number : ℕ) → two.waiting.waits.items ≡ slice_set one.waiting.waits.items number false → two.waiting.order ≡ one.waiting.order → two.draft ≡ one.draft → two.predecessors ≡ one.predecessors → Keeps (expansions one.draft.store) (expansions two.draft.store) → AreCalm table declared one → AreOthersCalm table declared number two
+  pub stop-calm : (one two : Walker) (number : ℕ) → two.waiting.waits.items ≡ slice_set one.waiting.waits.items number false → two.waiting.order ≡ one.waiting.order → two.draft ≡ one.draft → two.predecessors ≡ one.predecessors → Keeps one.draft.store two.draft.store → AreCalm table declared one → AreOthersCalm table declared number two
   stop-calm one two number cleared order draft remembers keeps are = record {
     many = ap length cleared ∙ (set-many one.waiting.waits.items number false ∙ are.many);
     ordered = order-kept table one.waiting two.waiting order are.ordered;
@@ -113,7 +113,7 @@ module _ (table : Table) (declared : Declared) where
   }
 
   -- which was cleared already
-  pub pass-calm : (one two : Walker) (number : ℕ) → two.waiting.waits.items ≡ slice_set one.waiting.waits.items number false → waits_in one.waiting.waits.items number ≡ false → two.waiting.order ≡ one.waiting.order → two.draft ≡ one.draft → two.predecessors ≡ one.predecessors → Keeps (expansions one.draft.store) (expansions two.draft.store) → AreCalm table declared one → AreCalm table declared two
+  pub pass-calm : (one two : Walker) (number : ℕ) → two.waiting.waits.items ≡ slice_set one.waiting.waits.items number false → waits_in one.waiting.waits.items number ≡ false → two.waiting.order ≡ one.waiting.order → two.draft ≡ one.draft → two.predecessors ≡ one.predecessors → Keeps one.draft.store two.draft.store → AreCalm table declared one → AreCalm table declared two
   pass-calm one two number cleared none order draft remembers keeps are = record {
     many = ap length cleared ∙ (set-many one.waiting.waits.items number false ∙ are.many);
     ordered = order-kept table one.waiting two.waiting order are.ordered;
@@ -130,7 +130,7 @@ module _ (table : Table) (declared : Declared) where
       rests : (row : Row) → IsIn table row → row.number ≡ number → walked table declared row now ≡ Ok now
       rests row is here =
           let waits : waits_in walker.waiting.waits.items row.number ≡ false = ap (waits_in walker.waiting.waits.items) here ∙ none in
-          rests-walked table declared row (memory_of (expansions walker.draft.store) walker.predecessors) now (calm-rests table declared row walker waits (are.each row is))
+          rests-walked table declared row (memory_of walker.draft.store walker.predecessors) now (calm-rests table declared row walker waits (are.each row is))
 
       by : (strictness : Strictness) (row : Row) → walked table declared row now ≡ Ok now → walked_by strictness table declared row now ≡ Ok now
       by Strict row h = h
@@ -149,7 +149,7 @@ module _ (table : Table) (declared : Declared) where
   none-calm walker number none are = record { many = are.many; ordered = are.ordered; each = λ row is. are.each row is (λ same. none.none row is same) }
 
   -- the steps of the state of that number were made, and what flows at them was taken in
-  pub walked-calm : (one made two : Walker) (number : ℕ) → made.waiting ≡ one.waiting → made.predecessors ≡ one.predecessors → draft_view made.draft ≡ draft_view one.draft → Keeps (expansions one.draft.store) (expansions made.draft.store)
+  pub walked-calm : (one made two : Walker) (number : ℕ) → made.waiting ≡ one.waiting → made.predecessors ≡ one.predecessors → draft_view made.draft ≡ draft_view one.draft → Keeps one.draft.store made.draft.store
       → StaysWaiting made.waiting two.waiting → OthersStayCalm number made two → AreOthersCalm table declared number one → AreOthersCalm table declared number two
   walked-calm one made two number waits remembers same keeps stays others are = record {
     many = many;
@@ -169,7 +169,7 @@ module _ (table : Table) (declared : Declared) where
       by row is (inr other) = are.each row is other.1
 
   -- as where it waits again
-  pub woken-calm : (one two : Walker) (number : ℕ) → two.waiting.waits.items ≡ slice_set one.waiting.waits.items number true → two.waiting.order ≡ one.waiting.order → two.draft ≡ one.draft → two.predecessors ≡ one.predecessors → Keeps (expansions one.draft.store) (expansions two.draft.store) → AreOthersCalm table declared number one → AreCalm table declared two
+  pub woken-calm : (one two : Walker) (number : ℕ) → two.waiting.waits.items ≡ slice_set one.waiting.waits.items number true → two.waiting.order ≡ one.waiting.order → two.draft ≡ one.draft → two.predecessors ≡ one.predecessors → Keeps one.draft.store two.draft.store → AreOthersCalm table declared number one → AreCalm table declared two
   woken-calm one two number woken order draft remembers keeps are = all-calm two number own others
     where
       others : AreOthersCalm table declared number two

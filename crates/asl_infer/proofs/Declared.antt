@@ -4,8 +4,7 @@ use Rattle.std.specs.Option.{unwrap_or}
 use Rattle.asl_model.specs.Certificate as model
 use Rattle.asl_model.specs.Certificate.{gives_among, gives_of, takes_among, takes_of, under}
 use Rattle.asl_model.specs.Shape.{Shape, Any}
-use Rattle.asl_numbered.specs.Expansion.{Keeps}
-use Rattle.asl_numbered.specs.Joins.{Shows}
+use Rattle.asl_numbered.specs.Expansion.{Keeps, Shows}
 use Rattle.asl_records.specs.View.{task_view}
 use Rattle.asl_records.specs.declared.records.Declared as code
 use Rattle.asl_records.specs.declared.records.TaskShapes.{TaskShapes}

@@ -7,9 +7,8 @@ use Rattle.asl_model.specs.Inference.{finding_of}
 use Rattle.asl_model.specs.Shape.{Shape}
 use Rattle.asl_draft_laws.specs.Drafts as drafts
 use Rattle.asl_draft_laws.specs.Drafts.{Draft, own_breaches, steps_taken}
-use Rattle.asl_numbered.specs.Expansion.{expansions, shape_at, Keeps}
-use Rattle.asl_numbered.proofs.Expansions.{kept_shape}
-use Rattle.asl_numbered.specs.declared.node.Node.{Node}
+use Rattle.asl_numbered.specs.Expansion.{shape_at, Keeps}
+use Rattle.asl_numbered.specs.Laws.{kept_shape}
 use Rattle.asl_states.specs.Machine.{kind_view, settings_view}
 use Rattle.asl_state_edges.specs.View.{AreStepsBelow, steps_of}
 use Rattle.asl_state_edges.specs.declared.found.Step.{Step}
@@ -34,7 +33,7 @@ use Rattle.asl_infer.proofs.WalkedRows.{same-row, tells-row, walked-broken, walk
 
 -- ---- steps, in a table that has grown
 
-pub steps-kept : (a b : List Node) (steps : List Step) → Keeps (expansions a) (expansions b) → AreStepsBelow (length a) steps → steps_of (expansions b) steps ≡ steps_of (expansions a) steps
+pub steps-kept : (a b : List Shape) (steps : List Step) → Keeps a b → AreStepsBelow (length a) steps → steps_of b steps ≡ steps_of a steps
 steps-kept a b [] keeps below = refl
 steps-kept a b (s ∷ steps) keeps below = ap₂ (λ x xs. x ∷ xs) (step-kept a b s keeps below.0) (steps-kept a b steps keeps below.1)
 
@@ -85,9 +84,9 @@ module _ (given : Given) (number : ℕ) (row : Row) (before : Draft) (old new : 
 
 -- ---- the state has been walked
 
-module _ (given : Given) (number : ℕ) (row : Row) (one made two : Walker) (steps : List Step) (are_whole : Bool) (of : IsRowOf given number row) (are : AreStepsOf given.strictness (declared_in given) (row_view number row) (draft_view one.draft) (expansions made.draft.store) steps are_whole) (same : draft_view made.draft ≡ draft_view one.draft) where
+module _ (given : Given) (number : ℕ) (row : Row) (one made two : Walker) (steps : List Step) (are_whole : Bool) (of : IsRowOf given number row) (are : AreStepsOf given.strictness (declared_in given) (row_view number row) (draft_view one.draft) made.draft.store steps are_whole) (same : draft_view made.draft ≡ draft_view one.draft) where
   abbrev all : List Walked
-  all = steps_of (expansions made.draft.store) steps
+  all = steps_of made.draft.store steps
 
   pub state-walks : (changed : Bool) → Makes room (steps_taken (table_in given) number all) (draft_view made.draft) changed (draft_view two.draft) → Walks given.strictness (table_in given) (declared_in given) number (draft_view one.draft) (draft_view two.draft)
   state-walks changed makes =

@@ -10,7 +10,7 @@ use Rattle.asl_model.specs.ShapeSpelling.{are_distinct}
 use Rattle.asl_draft_laws.specs.Drafts as drafts
 use Rattle.asl_draft_laws.specs.Drafts.{Draft, IsInferred, IsTold, NeverSettles}
 use Rattle.asl_draft_laws.specs.Drafts.{first_draft, input_taken, own_breaches, rows_of, unless_told, walked}
-use Rattle.asl_numbered.specs.Joins.{Shows}
+use Rattle.asl_numbered.specs.Expansion.{Shows}
 use Rattle.asl_records.specs.View.{declared_view}
 use Rattle.asl_records.specs.declared.records.Declared.{Declared}
 use Rattle.asl_states.specs.Machine.{state_view}

@@ -2,7 +2,7 @@
 use Rattle.std.specs.Prelude.{◌≡◌, ℕ, List, Some, slice_get}
 use Rattle.asl_model.specs.Certificate.{Declared, gives_of, takes_of}
 use Rattle.asl_model.specs.Shape.{Shape}
-use Rattle.asl_numbered.specs.Joins.{Shows}
+use Rattle.asl_numbered.specs.Expansion.{Shows}
 use Rattle.asl_infer.specs.declared.tasks.TaskNumbers.{TaskNumbers}
 
 -- the numbers are those of the shapes of the task of that name

@@ -13,7 +13,6 @@ ghost use Rattle.asl_model.specs.RecordShapes.{HoldsForCertificate};
 ghost use Rattle.asl_model.specs.Written.{written_certificate};
 ghost use Rattle.asl_draft_laws.specs.Drafts.{IsInferred, IsTold, first_draft};
 ghost use Rattle.asl_states.specs.Table.{Shows, table_view};
-ghost use Rattle.asl_numbered.specs.Expansion.{expansions};
 ghost use Rattle.asl_records.specs.Numbered.{numbered_view, AreWithin};
 ghost use Rattle.asl_records.specs.View.{declared_view, certificate_view};
 ghost use Rattle.asl_drafts.specs.Cutting.{IsShallow};
@@ -147,7 +146,7 @@ pub(crate) fn begin<'m>(
 ) -> Result<(Given<'m>, Walker), OutOfMemory>
     requires { AreOrdered (table_view machine.now) order.items }
     ensures given { IfOk result (λ begun.
-        IsGivenOf machine.now declared.now strictness (expansions begun.1.draft.store) begun.0) }
+        IsGivenOf machine.now declared.now strictness begun.1.draft.store begun.0) }
     ensures first { IfOk result (λ begun.
         draft_view begun.1.draft ≡ first_draft (table_view machine.now)) }
     ensures calm { IfOk result (λ begun.

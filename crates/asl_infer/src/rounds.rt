@@ -2,7 +2,7 @@
 
 ghost use Rattle.std.specs.Prelude.{◌≡◌, length, IfErr, IfNone, IfOk, IfSome, OnOk};
 ghost use Rattle.asl_draft_laws.specs.Drafts.{first_draft, input_taken};
-ghost use Rattle.asl_numbered.specs.Expansion.{expansions, Keeps};
+ghost use Rattle.asl_numbered.specs.Expansion.{Keeps};
 ghost use Rattle.asl_state_edges.specs.View.{AreStepsBelow};
 ghost use Rattle.asl_drafts.specs.Drafted.{draft_view, room};
 ghost use Rattle.asl_drafts.specs.Entries.{Makes};
@@ -59,9 +59,8 @@ impl<'m> Given<'m> {
         strictness: Strictness,
         store: &mut Store,
     ) -> Result<Given<'m>, OutOfMemory>
-        ensures given { IfOk result
-            (IsGivenOf machine.now declared.now strictness (expansions store.new)) }
-        ensures keeps { Keeps (expansions store.old) (expansions store.new) }
+        ensures given { IfOk result (IsGivenOf machine.now declared.now strictness store.new) }
+        ensures keeps { Keeps store.old store.new }
     {
         let tasks = task_numbers(alloc, machine, declared, store)?;
         let input = store.add(&declared.input)?;
@@ -82,7 +81,7 @@ impl<'m> Given<'m> {
         max_rounds: u32,
         walker: &mut Walker,
     ) -> Result<(), InferRefusal>
-        requires given { IsGiven (expansions walker.old.draft.store) self.now }
+        requires given { IsGiven walker.old.draft.store self.now }
         requires first { draft_view walker.old.draft ≡ first_draft (table_in self.now) }
         requires calm { AreCalm (table_in self.now) (declared_in self.now) walker.old }
         ensures settled { OnOk result
@@ -104,7 +103,7 @@ impl<'m> Given<'m> {
     // One round: what flows into the machine, and then out of each of the states that wait, in byte order of their
     // names, is taken in. Says whether a shape was changed.
     fn take_round(&self, walker: &mut Walker) -> Result<bool, InferRefusal>
-        requires given { IsGiven (expansions walker.old.draft.store) self.now }
+        requires given { IsGiven walker.old.draft.store self.now }
         requires calm { AreCalm (table_in self.now) (declared_in self.now) walker.old }
         ensures round { OnOk result
             (TakesRound self.now.strictness (table_in self.now) (declared_in self.now)
@@ -117,8 +116,7 @@ impl<'m> Given<'m> {
             (draft_view walker.old.draft)) }
         ensures calm { OnOk result
             (AreCalm (table_in self.now) (declared_in self.now) walker.new) }
-        ensures keeps { Keeps (expansions walker.old.draft.store)
-            (expansions walker.new.draft.store) }
+        ensures keeps { Keeps walker.old.draft.store walker.new.draft.store }
     {
         let mut changed = self.take_input(walker)?;
         let mut from = 0;
@@ -133,15 +131,14 @@ impl<'m> Given<'m> {
 
     // Takes the declared input into the start state's input, and says whether this changed it.
     fn take_input(&self, walker: &mut Walker) -> Result<bool, OutOfMemory>
-        requires given { IsGiven (expansions walker.old.draft.store) self.now }
+        requires given { IsGiven walker.old.draft.store self.now }
         requires calm { AreCalm (table_in self.now) (declared_in self.now) walker.old }
         ensures takes { IfOk result
             (λ changed. Makes room (input_taken (table_in self.now) (declared_in self.now))
             (draft_view walker.old.draft) changed (draft_view walker.new.draft)) }
         ensures calm { OnOk result
             (AreCalm (table_in self.now) (declared_in self.now) walker.new) }
-        ensures keeps { Keeps (expansions walker.old.draft.store)
-            (expansions walker.new.draft.store) }
+        ensures keeps { Keeps walker.old.draft.store walker.new.draft.store }
     {
         match self.machine.scope_of(0) {
             Some(scope) => walker.take(Target::Input(scope.start), self.input),
@@ -152,7 +149,7 @@ impl<'m> Given<'m> {
     // Takes in what flows out of the state of that number if it waits, and says whether a shape was changed. A walk
     // through one that doesn't wait would change nothing. One that breaks a rule of its own waits again.
     fn take_turn(&self, number: usize, walker: &mut Walker) -> Result<bool, InferRefusal>
-        requires given { IsGiven (expansions walker.old.draft.store) self.now }
+        requires given { IsGiven walker.old.draft.store self.now }
         requires calm { AreCalm (table_in self.now) (declared_in self.now) walker.old }
         ensures walks { OnOk result
             (Walks self.now.strictness (table_in self.now) (declared_in self.now) number
@@ -166,8 +163,7 @@ impl<'m> Given<'m> {
         ensures calm { OnOk result
             (AreCalm (table_in self.now) (declared_in self.now) walker.new) }
         ensures order { walker.new.waiting.order ≡ walker.old.waiting.order }
-        ensures keeps { Keeps (expansions walker.old.draft.store)
-            (expansions walker.new.draft.store) }
+        ensures keeps { Keeps walker.old.draft.store walker.new.draft.store }
     {
         if !walker.waiting.stop(number) {
             return Ok(false);
@@ -208,20 +204,19 @@ impl<'m> Given<'m> {
         row: &Row<'m>,
         draft: &mut Draft,
     ) -> Result<(Vec<Step<'m>>, bool), InferRefusal>
-        requires given { IsGiven (expansions draft.old.store) self.now }
+        requires given { IsGiven draft.old.store self.now }
         requires row { IsRowOf self.now number row.now }
         ensures steps { IfOk result
             (λ found. AreStepsOf self.now.strictness (declared_in self.now)
             (row_view number row.now) (draft_view draft.old)
-            (expansions draft.new.store) found.0.items found.1) }
+            draft.new.store found.0.items found.1) }
         ensures below { IfOk result
             (λ found. AreStepsBelow (length draft.new.store) found.0.items) }
         ensures told { IfErr result
             (WalkTells self.now.strictness (table_in self.now) (declared_in self.now) number
             (draft_view draft.old)) }
         ensures same { draft_view draft.new ≡ draft_view draft.old }
-        ensures keeps { Keeps (expansions draft.old.store)
-            (expansions draft.new.store) }
+        ensures keeps { Keeps draft.old.store draft.new.store }
     {
         let steps = draft.edges(number, row.state, row.task.gives)?;
         let Some(breach) = first_broken(draft, &steps, row.task.takes)? else {

@@ -1,7 +1,7 @@
 // The shapes that are declared of tasks, by number.
 
 ghost use Rattle.std.specs.Prelude.{◌≡◌, length, IfOk};
-ghost use Rattle.asl_numbered.specs.Expansion.{expansions, Keeps};
+ghost use Rattle.asl_numbered.specs.Expansion.{Keeps};
 ghost use Rattle.asl_records.specs.View.{declared_view};
 ghost use Rattle.asl_states.specs.Table.{table_view};
 ghost use Rattle.asl_infer.specs.Tasks.{AreTasks, IsTaskOf};
@@ -31,10 +31,10 @@ pub(crate) fn task_numbers(
 ) -> Result<Vec<TaskNumbers>, OutOfMemory>
     ensures tasks { IfOk result
         (λ tasks. AreTasks (declared_view declared.now) (table_view machine.now).names
-        (expansions store.new) tasks.items) }
+        store.new tasks.items) }
     ensures many { IfOk result
         (λ tasks. length tasks.items ≡ length (table_view machine.now).states) }
-    ensures keeps { Keeps (expansions store.old) (expansions store.new) }
+    ensures keeps { Keeps store.old store.new }
 {
     let mut tasks = Vec::new(alloc);
     for number in 0..machine.states() {
@@ -46,9 +46,8 @@ pub(crate) fn task_numbers(
 
 // The numbers of the shapes of the task of the state of that name.
 fn task_of(declared: &Declared, name: &str, store: &mut Store) -> Result<TaskNumbers, OutOfMemory>
-    ensures task { IfOk result
-        (IsTaskOf (declared_view declared.now) name.now (expansions store.new)) }
-    ensures keeps { Keeps (expansions store.old) (expansions store.new) }
+    ensures task { IfOk result (IsTaskOf (declared_view declared.now) name.now store.new) }
+    ensures keeps { Keeps store.old store.new }
 {
     match declared.task(name) {
         Some(task) => Ok(TaskNumbers {

@@ -5,7 +5,7 @@ ghost use Rattle.asl_draft_laws.specs.Drafts.{own_breaches};
 ghost use Rattle.asl_model.specs.Finding.{breach_shown};
 ghost use Rattle.asl_model.specs.Inference.{finding_of};
 ghost use Rattle.asl_tree.specs.View.{view as tree_view};
-ghost use Rattle.asl_numbered.specs.Expansion.{expansions, shape_at, Keeps};
+ghost use Rattle.asl_numbered.specs.Expansion.{shape_at, Keeps};
 ghost use Rattle.asl_state_edges.specs.View.{broken_view, edge_view, finding_fault_view, step_view};
 ghost use Rattle.asl_state_edges.specs.View.{AreStepsBelow, IsBrokenBelow, IsStepBelow};
 ghost use Rattle.asl_drafts.specs.Drafted.{draft_view};
@@ -36,11 +36,10 @@ pub(crate) fn first_broken(
     requires below { AreStepsBelow (length draft.old.store) steps.now }
     requires takes { takes < length draft.old.store }
     ensures first { IfOk result
-        (IsFirstBroken (expansions draft.old.store)
-        (shape_at (expansions draft.old.store) takes) steps.now) }
+        (IsFirstBroken draft.old.store (shape_at draft.old.store takes) steps.now) }
     ensures kept { IfOk result (λ breach. breach ≡ None → draft.new.store ≡ draft.old.store) }
     ensures same { draft_view draft.new ≡ draft_view draft.old }
-    ensures keeps { Keeps (expansions draft.old.store) (expansions draft.new.store) }
+    ensures keeps { Keeps draft.old.store draft.new.store }
 {
     for step in steps {
         let breach = breach_at(draft, step, takes)?;
@@ -56,12 +55,12 @@ fn breach_at(draft: &mut Draft, step: &Step, takes: usize) -> Result<Option<Brea
     requires below { IsStepBelow (length draft.old.store) step.now }
     requires takes { takes < length draft.old.store }
     ensures broken { IfOk result
-        (λ breach. own_breaches (shape_at (expansions draft.old.store) takes)
-        (step_view (expansions draft.old.store) step.now ∷ [])
+        (λ breach. own_breaches (shape_at draft.old.store takes)
+        (step_view draft.old.store step.now ∷ [])
         ≡ option_to_list (option_map breach_view breach)) }
     ensures kept { IfOk result (λ breach. breach ≡ None → draft.new.store ≡ draft.old.store) }
     ensures same { draft_view draft.new ≡ draft_view draft.old }
-    ensures keeps { Keeps (expansions draft.old.store) (expansions draft.new.store) }
+    ensures keeps { Keeps draft.old.store draft.new.store }
 {
     match step {
         Step::Flows(edge) => payload_breach(draft, edge, takes),
@@ -78,8 +77,8 @@ fn payload_breach(
     requires flowing { edge.now.flowing < length draft.old.store }
     requires takes { takes < length draft.old.store }
     ensures broken { IfOk result
-        (λ breach. own_breaches (shape_at (expansions draft.old.store) takes)
-        (edge_view (expansions draft.old.store) edge.now ∷ [])
+        (λ breach. own_breaches (shape_at draft.old.store takes)
+        (edge_view draft.old.store edge.now ∷ [])
         ≡ option_to_list (option_map breach_view breach)) }
     ensures kept { draft.new.store ≡ draft.old.store }
     ensures same { draft_view draft.new ≡ draft_view draft.old }
@@ -113,10 +112,9 @@ fn payload_shown(edge: &Edge, example: Option<Tree>) -> Option<Breach>
 fn shown(draft: &mut Draft, broken: &Broken) -> Result<Breach, OutOfMemory>
     requires { IsBrokenBelow (length draft.old.store) broken.now }
     ensures seen { IfOk result
-        (λ breach. breach_view breach
-        ≡ broken_view (expansions draft.old.store) broken.now) }
+        (λ breach. breach_view breach ≡ broken_view draft.old.store broken.now) }
     ensures same { draft_view draft.new ≡ draft_view draft.old }
-    ensures keeps { Keeps (expansions draft.old.store) (expansions draft.new.store) }
+    ensures keeps { Keeps draft.old.store draft.new.store }
 {
     let example = match broken.path {
         Some(path) => draft.counterexample(path)?,

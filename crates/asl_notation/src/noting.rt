@@ -1,7 +1,7 @@
 //! The notation of shapes.
 ghost use Rattle.std.specs.Prelude.{◌≡◌, ◌++◌, IfOk, OnOk, codes, map, string_bytes};
 ghost use Rattle.asl_model.specs.Shape as shape;
-ghost use Rattle.asl_numbered.specs.Expansion.{expansions, fields_at, shape_at, shapes_at};
+ghost use Rattle.asl_numbered.specs.Expansion.{fields_at, shape_at, shapes_at};
 ghost use Rattle.asl_notation.specs.Notation as model;
 ghost use Rattle.asl_notation.specs.Notation.{noted_below};
 
@@ -24,7 +24,7 @@ pub fn note(
     limits: Limits,
 ) -> Result<String, OutOfMemory>
     ensures { IfOk result (λ text. string_bytes text
-        ≡ model.noted limits.depth limits.width (shape_at (expansions shapes.now) number)) }
+        ≡ model.noted limits.depth limits.width (shape_at shapes.now number)) }
 {
     if shapes.takes_all(number) {
         Ok(String::from_str(alloc, "any")?)
@@ -38,7 +38,7 @@ pub fn note(
 /// Whether some tree has the shape of that number; not where there is none.
 #[tactic(auto, using(asl_numbered::proofs::Tables::told_inhabited))]
 fn is_inhabited(shapes: &Shapes, number: usize) -> bool
-    ensures { result ≡ shape.inhabited (shape_at (expansions shapes.now) number) }
+    ensures { result ≡ shape.inhabited (shape_at shapes.now number) }
 {
     shapes.inhabited(number).unwrap_or(false)
 }
@@ -53,7 +53,7 @@ fn note_kinds(
 ) -> Result<String, OutOfMemory>
     ensures { IfOk result (λ text. string_bytes text
         ≡ model.parts_noted (noted_below limits.depth limits.width) limits.width
-        (shape_at (expansions shapes.now) number)) }
+        (shape_at shapes.now number)) }
 {
     let Some(kinds) = shapes.take_apart(number) else {
         return Ok(String::from_str(alloc, "any")?);
@@ -81,14 +81,13 @@ fn push_lists(
     lists: NodeArrays<'_>,
     limits: Limits,
 ) -> Result<(), OutOfMemory>
-    requires { shape_at (expansions shapes.now) lists.number
-        ≡ shape.ArrayShape (shapes_at (expansions shapes.now) lists.first.now)
-        (shape_at (expansions shapes.now) lists.rest) }
+    requires { shape_at shapes.now lists.number
+        ≡ shape.ArrayShape (shapes_at shapes.now lists.first.now) (shape_at shapes.now lists.rest) }
     ensures { OnOk result (map string_bytes parts.new.items
         ≡ map string_bytes parts.old.items
         ++ model.arrays_noted (noted_below limits.depth limits.width) limits.width
-        (shape.ArraysOf (shapes_at (expansions shapes.now) lists.entry.first.now)
-        (shape_at (expansions shapes.now) lists.entry.rest))) }
+        (shape.ArraysOf (shapes_at shapes.now lists.entry.first.now)
+        (shape_at shapes.now lists.entry.rest))) }
 {
     if is_inhabited(shapes, lists.number) {
         let mut elements = Vec::new(alloc);
@@ -110,8 +109,7 @@ fn push_elements(
     ensures { OnOk result (map string_bytes parts.new.items
         ≡ map string_bytes parts.old.items
         ++ model.elements_noted (noted_below limits.depth limits.width) limits.width
-        (shapes_at (expansions shapes.now) lists.entry.first.now)
-        (shape_at (expansions shapes.now) lists.entry.rest)) }
+        (shapes_at shapes.now lists.entry.first.now) (shape_at shapes.now lists.entry.rest)) }
 {
     match limits.below() {
         Some(below) => {
@@ -137,9 +135,8 @@ fn push_rest(
 ) -> Result<(), OutOfMemory>
     ensures { OnOk result (map string_bytes parts.new.items
         ≡ map string_bytes parts.old.items
-        ++ model.word_if (shape.inhabited (shape_at (expansions shapes.now) rest))
-        (codes ".."
-        ++ model.noted limits.depth limits.width (shape_at (expansions shapes.now) rest))) }
+        ++ model.word_if (shape.inhabited (shape_at shapes.now rest)) (codes ".."
+        ++ model.noted limits.depth limits.width (shape_at shapes.now rest))) }
 {
     if is_inhabited(shapes, rest) {
         let rest = note(alloc, shapes, rest, limits)?;
@@ -160,7 +157,7 @@ fn push_places(
     ensures { OnOk result (map string_bytes parts.new.items
         ≡ map string_bytes parts.old.items
         ++ model.places_noted (model.noted limits.depth limits.width) limits.width
-        (shapes_at (expansions shapes.now) places.now)) }
+        (shapes_at shapes.now places.now)) }
 {
     let mut left = limits.width;
     for place in places {
@@ -182,13 +179,12 @@ fn push_objects(
     objects: NodeObjects<'_>,
     limits: Limits,
 ) -> Result<(), OutOfMemory>
-    requires { shape_at (expansions shapes.now) objects.number
-        ≡ shape.ObjectShape (fields_at (expansions shapes.now) objects.fields.now.entries)
-        objects.extra }
+    requires { shape_at shapes.now objects.number
+        ≡ shape.ObjectShape (fields_at shapes.now objects.fields.now.entries) objects.extra }
     ensures { OnOk result (map string_bytes parts.new.items
         ≡ map string_bytes parts.old.items
         ++ model.objects_noted (noted_below limits.depth limits.width) limits.width
-        (shape.ObjectsOf (fields_at (expansions shapes.now) objects.entry.fields.now.entries)
+        (shape.ObjectsOf (fields_at shapes.now objects.entry.fields.now.entries)
         objects.entry.extra)) }
 {
     if is_inhabited(shapes, objects.number) {
@@ -211,8 +207,7 @@ fn push_members(
     ensures { OnOk result (map string_bytes parts.new.items
         ≡ map string_bytes parts.old.items
         ++ model.members_noted (noted_below limits.depth limits.width) limits.width
-        (fields_at (expansions shapes.now) objects.entry.fields.now.entries)
-        objects.entry.extra) }
+        (fields_at shapes.now objects.entry.fields.now.entries) objects.entry.extra) }
 {
     match limits.below() {
         Some(below) => push_fields(alloc, parts, shapes, objects.fields, below)?,
@@ -234,7 +229,7 @@ fn push_fields(
     ensures { OnOk result (map string_bytes parts.new.items
         ≡ map string_bytes parts.old.items
         ++ model.fields_noted (model.noted limits.depth limits.width) limits.width
-        (fields_at (expansions shapes.now) fields.now.entries)) }
+        (fields_at shapes.now fields.now.entries)) }
 {
     let mut left = limits.width;
     for (name, field) in fields.iter() {
@@ -258,7 +253,7 @@ fn note_field(
 ) -> Result<String, OutOfMemory>
     ensures { IfOk result (λ text. string_bytes text
         ≡ model.field_noted (model.noted limits.depth limits.width) name.now field.needed
-        (shape_at (expansions shapes.now) field.shape)) }
+        (shape_at shapes.now field.shape)) }
 {
     let name = note_name(alloc, name)?;
     let mark = if field.needed { ": " } else { "?: " };

@@ -28,8 +28,9 @@ use Rattle.asl_numbered.specs.declared.comparing.Task.TheVariants.{Compare, Conc
 use Rattle.asl_numbered.specs.Comparison.{inside, IsWithin, IsRight, AreRight, all_inside, AreEachStanding, AreEachOutside, AreOutside, count_shapes, array_parts, object_parts, count_parts, widest, cost, work, width, RestsOn, AreComparisons, PartsRestOn, place_tasks, AreGoing, with_field_task, field_tasks, mention_fits_in, mentions_fit_in, objects_fit_in}
 use Rattle.asl_numbered.specs.Expansion.{shape_at, shapes_at, fields_at, expansions, numbers_in, AreBelow, Keeps}
 use Rattle.asl_numbered.specs.TakenApart.{simple_of, arrays_over, objects_over, kinds_over, AreArraysAt, AreObjectsAt, AreArraysIfAny, AreObjectsIfAny}
-use Rattle.asl_numbered.proofs.Expansions.{as_many, below-wider, keeps_longer, kept_shape}
+use Rattle.asl_numbered.proofs.Expansions.{as_many}
 use Rattle.asl_numbered.proofs.Remembered.{same, each_kept, each_put, each_found}
+use Rattle.asl_numbered.specs.Laws.{below-wider, keeps_longer, kept_shape}
 
 -- ---- what is remembered
 

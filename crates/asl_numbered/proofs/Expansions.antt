@@ -1,37 +1,14 @@
 -- The shapes that nodes stand for: what a further node changes, and what stays.
-use Rattle.std.proofs.Common.{◌≡◌, ◌<◌, ◌≤◌, ℕ, zero, suc, ◌+◌, List, [], ◌∷◌, ◌++◌, length, take, drop, map, Bool, String, Global, Some, slice_get, Vec, refl, sym, ap, ◌∙◌, subst, append_assoc, arith}
-use Rattle.std.proofs.lemmas.List.{append-nil, length-append, get_or_append_left, get_or_push, length_push, take-append-drop}
+use Rattle.std.proofs.Common.{◌≡◌, ◌<◌, ◌≤◌, ℕ, zero, suc, ◌+◌, List, [], ◌∷◌, ◌++◌, length, map, Bool, String, Global, Some, slice_get, Vec, refl, sym, ap, ◌∙◌, subst, append_assoc, arith}
+use Rattle.std.proofs.lemmas.List.{append-nil, length-append, get_or_append_left, get_or_push, length_push}
 use Rattle.std.specs.BTreeMap.{BTreeMap}
 use Rattle.asl_model.specs.Shape as model
 use Rattle.asl_shape.specs.View.{merged}
 use Rattle.asl_numbered.specs.declared.node.Node.{Node}
 use Rattle.asl_numbered.specs.declared.node.Node.TheVariants.{Any, Never, Null, Bool as Truth, Int, Text, List as Elements, Object, Several}
 use Rattle.asl_numbered.specs.declared.node.NodeField.{NodeField}
+use Rattle.asl_numbered.specs.Laws.{keeps_same, keeps_trans, kept_shape}
 use Rattle.asl_numbered.specs.Expansion.{shape_at, shapes_at, fields_at, shape_over, numbers_in, parts, AreBelow, RefersBelow, expansions_after, expansions, Keeps}
-
--- ---- numbers below a bound
-
-pub below-front : (bound : ℕ) (ns ms : List ℕ) → AreBelow bound (ns ++ ms) → AreBelow bound ns
-below-front bound [] ms h = tt
-below-front bound (n ∷ ns) ms h = (h.0, below-front bound ns ms h.1)
-
-pub below-behind : (bound : ℕ) (ns ms : List ℕ) → AreBelow bound (ns ++ ms) → AreBelow bound ms
-below-behind bound [] ms h = h
-below-behind bound (n ∷ ns) ms h = below-behind bound ns ms h.1
-
-pub below-append : (bound : ℕ) (ns ms : List ℕ) → AreBelow bound ns → AreBelow bound ms → AreBelow bound (ns ++ ms)
-below-append bound [] ms h further = further
-below-append bound (n ∷ ns) ms h further = (h.0, below-append bound ns ms h.1 further)
-
-pub below-take : (bound k : ℕ) (ns : List ℕ) → AreBelow bound ns → AreBelow bound (take k ns)
-below-take bound k ns h = below-front bound (take k ns) (drop k ns) (subst (AreBelow bound) (sym (take-append-drop k ns)) h)
-
-pub below-drop : (bound k : ℕ) (ns : List ℕ) → AreBelow bound ns → AreBelow bound (drop k ns)
-below-drop bound k ns h = below-behind bound (take k ns) (drop k ns) (subst (AreBelow bound) (sym (take-append-drop k ns)) h)
-
-pub below-wider : (bound wider : ℕ) (ns : List ℕ) → bound ≤ wider → AreBelow bound ns → AreBelow wider ns
-below-wider bound wider [] h below = tt
-below-wider bound wider (n ∷ ns) h below = (omega (arith, below.0), below-wider bound wider ns h below.1)
 
 -- ---- what a node refers to
 
@@ -46,14 +23,6 @@ object_refers bound fields extra below = record { each = below }
 
 pub several_refers : (bound : ℕ) (numbers : Vec ℕ Global) → AreBelow bound numbers.items → RefersBelow bound (Several numbers)
 several_refers bound numbers below = record { each = below }
-
--- the first of some numbers, and those behind
-pub below_next : (bound : ℕ) (now left : List ℕ) (n : ℕ) → now ≡ n ∷ left → AreBelow bound now → (n < bound) × AreBelow bound left
-below_next bound now left n split h = subst (AreBelow bound) split h
-
--- the same of fields
-pub below_next_field : (bound : ℕ) (now left : List (String Global × NodeField)) (m : String Global × NodeField) → now ≡ m ∷ left → AreBelow bound (numbers_in now) → (m.1.shape < bound) × AreBelow bound (numbers_in left)
-below_next_field bound now left m split h = subst (λ fs. AreBelow bound (numbers_in fs)) split h
 
 -- ---- shapes under numbers that stay
 
@@ -86,20 +55,8 @@ shape_over_stays table added (Several numbers) h = ap merged (list_stays table a
 
 -- ---- keeping
 
-pub keeps_same : (table : List model.Shape) → Keeps table table
-keeps_same table = record { added = []; whole = sym (append-nil table) }
-
 pub keeps_unchanged : (a b : List Node) → b ≡ a → Keeps (expansions a) (expansions b)
 keeps_unchanged a b e = rw e (keeps_same (expansions a))
-
-pub keeps_trans : (a b c : List model.Shape) → Keeps a b → Keeps b c → Keeps a c
-keeps_trans a b c h k = record { added = h.added ++ k.added; whole = k.whole ∙ ap (λ t. t ++ k.added) h.whole ∙ append_assoc a h.added k.added }
-
-pub keeps_longer : (a b : List model.Shape) → Keeps a b → length a ≤ length b
-keeps_longer a b h = rw (h.whole, length-append a h.added) (omega arith)
-
-pub kept_shape : (a b : List model.Shape) (n : ℕ) → Keeps a b → n < length a → shape_at b n ≡ shape_at a n
-kept_shape a b n h within = rw h.whole (shape_at_stays a h.added n within)
 
 -- ---- nodes behind others
 

@@ -13,7 +13,8 @@ use Rattle.asl_numbered.specs.declared.node.NodeField.{NodeField}
 use Rattle.asl_numbered.specs.Expansion.{shape_at, shapes_at, fields_at, shape_over, numbers_in, AreBelow, RefersBelow, IsNumberOf, AreNumbersOf, AreFieldsOf, Keeps}
 use Rattle.asl_numbered.specs.TakenApart.{arrays_of, objects_of, HasArraysAt, HasObjectsAt}
 use Rattle.asl_numbered.proofs.Appending.{names, appended}
-use Rattle.asl_numbered.proofs.Expansions.{below-append, below-wider, keeps_longer, shapes_at_stay, fields_at_stay}
+use Rattle.asl_numbered.proofs.Expansions.{shapes_at_stay, fields_at_stay}
+use Rattle.asl_numbered.specs.Laws.{below-append, below-wider, keeps_longer}
 
 -- ---- names
 

@@ -17,11 +17,11 @@ use Rattle.asl_numbered.specs.declared.joining.JoinTask.{JoinTask}
 use Rattle.asl_numbered.specs.declared.joining.JoinTask.TheVariants.{Join, Nothing, With, Finish}
 use Rattle.asl_shape.specs.View.{shapes_of}
 use Rattle.asl_numbered.specs.Comparison.{IsWithin}
-use Rattle.asl_numbered.specs.Expansion.{shape_at, shapes_at, Keeps}
-use Rattle.asl_numbered.specs.Joins.{joint, Shows, IsJoin, AreJoins, place_joins, Step, JoinStep, NothingStep, WithStep, step_of, steps_of, joined_last, done, all_done, IsFed, AreEachFed, places_cost, each_cost, rest_cost, with_field_cost, fields_cost, arrays_cost, objects_cost, parts_cost, cost_within, cost_of, last_of, step_cost, work_left, place_joinings, joinings_with, field_joinings, field_joining, found_in, AreEachTasksWithin, AreLeft, Moves}
+use Rattle.asl_numbered.specs.Expansion.{shape_at, shapes_at, Keeps, Shows}
+use Rattle.asl_numbered.specs.Joins.{joint, IsJoin, AreJoins, place_joins, Step, JoinStep, NothingStep, WithStep, step_of, steps_of, joined_last, done, all_done, IsFed, AreEachFed, places_cost, each_cost, rest_cost, with_field_cost, fields_cost, arrays_cost, objects_cost, parts_cost, cost_within, cost_of, last_of, step_cost, work_left, place_joinings, joinings_with, field_joinings, field_joining, found_in, AreEachTasksWithin, AreLeft, Moves}
 use Rattle.asl_numbered.proofs.Comparisons.{within_kept}
-use Rattle.asl_numbered.proofs.Expansions.{keeps_longer, kept_shape}
 use Rattle.asl_numbered.proofs.Remembered.{same, each_kept, each_put, each_found}
+use Rattle.asl_numbered.specs.Laws.{keeps_longer, kept_shape}
 
 -- ---- what is remembered
 

@@ -21,8 +21,8 @@ use Rattle.asl_numbered.specs.Expansion.{shape_at, shapes_at, fields_at, numbers
 use Rattle.asl_numbered.specs.TakenApart.{arrays_over, objects_over, kinds_over}
 use Rattle.asl_numbered.specs.Joins.{place_joins, with_field_join, field_joins, array_joins, object_joins, kinds_joins, kept, part_joins, Step, NothingStep, WithStep, FinishStep, step_of, steps_of, joined_last, done, all_done, IsFed, AreEachFed, places_cost, each_cost, rest_cost, with_field_cost, fields_cost, arrays_cost, objects_cost, parts_cost, cost_of, last_of, work_left, place_joinings, joinings_with, field_joinings, field_joining, array_joinings, object_joinings, AreInhabited, found_in, AreEachTasksWithin, Moves, AreArraysWithin, AreObjectsWithin, AreKindsWithin, AreKindsOf}
 use Rattle.asl_numbered.proofs.Comparisons.{mention_of_number, found-below}
-use Rattle.asl_numbered.proofs.Expansions.{below-drop}
 use Rattle.asl_numbered.proofs.Joins.{done_append, work_append, joined_behind, last_behind, with_each, with_each_work, places_each, places_each_work, parts_cheaper, behind_one, behind_each}
+use Rattle.asl_numbered.specs.Laws.{below-drop}
 
 -- ---- tasks for parts
 

@@ -7,11 +7,11 @@ use Rattle.asl_numbered.specs.declared.pair.Pair.{Pair}
 use Rattle.asl_numbered.specs.declared.joining.JoinTask.{JoinTask}
 use Rattle.asl_numbered.specs.declared.joining.JoinTask.TheVariants.{Join, Nothing, With, Finish}
 use Rattle.asl_numbered.specs.Comparison.{IsWithin}
-use Rattle.asl_numbered.specs.Expansion.{shape_at, AreBelow, IsNumberOf, Keeps}
-use Rattle.asl_numbered.specs.Joins.{joint, Shows, AreJoins, step_of, Step, steps_of, joined_last, done, IsFed, AreEachFed, cost_of, last_of, step_cost, work_left, found_in, IsTaskWithin, AreEachTasksWithin, AreLeft, Moves, AreMadeOf}
+use Rattle.asl_numbered.specs.Expansion.{shape_at, AreBelow, IsNumberOf, Keeps, Shows}
+use Rattle.asl_numbered.specs.Joins.{joint, AreJoins, step_of, Step, steps_of, joined_last, done, IsFed, AreEachFed, cost_of, last_of, step_cost, work_left, found_in, IsTaskWithin, AreEachTasksWithin, AreLeft, Moves, AreMadeOf}
 use Rattle.asl_numbered.proofs.Comparisons.{within_kept}
-use Rattle.asl_numbered.proofs.Expansions.{below-front, below-behind, below-append, below-take, below-drop, below-wider, keeps_longer, kept_shape, keeps_same}
 use Rattle.asl_numbered.proofs.Joins.{joint_kept, joins_kept, parts_cheaper, joined_behind, last_behind, moved, less_work}
+use Rattle.asl_numbered.specs.Laws.{below-append, below-behind, below-drop, below-front, below-take, below-wider, keeps_longer, keeps_same, kept_shape}
 
 -- the shapes of the numbers stay
 found-kept : (old new : List Shape) (numbers : List ℕ) → Keeps old new → AreBelow (length old) numbers → found_in new numbers ≡ found_in old numbers

@@ -32,13 +32,14 @@ use Rattle.asl_numbered.specs.declared.node.Node.{Node}
 use Rattle.asl_numbered.specs.declared.node.Node.TheVariants as nodes
 use Rattle.asl_numbered.specs.declared.node.NodeField.{NodeField}
 use Rattle.asl_numbered.specs.declared.pair.Pair.{Pair}
-use Rattle.asl_numbered.specs.Expansion.{shape_at, shapes_at, fields_at, shape_over, expansions, numbers_in, parts, AreBelow, RefersBelow, IsNumberOf, Keeps}
+use Rattle.asl_numbered.specs.Expansion.{shape_at, shapes_at, fields_at, shape_over, expansions, numbers_in, parts, AreBelow, RefersBelow, IsNumberOf, Keeps, Shows}
 use Rattle.asl_numbered.specs.Kinds.{AreSeveral, HasProperParts}
 use Rattle.asl_numbered.specs.TakenApart.{arrays_over, objects_over, kinds_over, arrays_of, objects_of, arrays_at, objects_at, kinds_at, AreArraysIfAny, AreObjectsIfAny, AreKindsAt}
-use Rattle.asl_numbered.specs.Joins.{joint, Shows, place_joins, with_field_join, field_joins, array_joins, object_joins, kinds_joins, kept, found_in, AreMadeOf, AreArraysWithin, AreObjectsWithin, AreKindsWithin, AreKindsOf, part_shape, IsPartWithin, HasPart, IsPutPart, IsOfArrays, IsOfObjects, simple_of, AreJoined, IsArrayJoin, IsObjectJoin, AreJoinedFields, AreWithOthers, IsListOf}
+use Rattle.asl_numbered.specs.Joins.{joint, place_joins, with_field_join, field_joins, array_joins, object_joins, kinds_joins, kept, found_in, AreMadeOf, AreArraysWithin, AreObjectsWithin, AreKindsWithin, AreKindsOf, part_shape, IsPartWithin, HasPart, IsPutPart, IsOfArrays, IsOfObjects, simple_of, AreJoined, IsArrayJoin, IsObjectJoin, AreJoinedFields, AreWithOthers, IsListOf}
 use Rattle.asl_numbered.proofs.Comparisons.{mentions_number, mention_of_number}
-use Rattle.asl_numbered.proofs.Expansions.{as_many, below-behind, below-drop, below-take, below-wider, keeps_longer, kept_shape, shape_over_stays}
+use Rattle.asl_numbered.proofs.Expansions.{as_many, shape_over_stays}
 use Rattle.asl_numbered.proofs.Joins.{common_places}
+use Rattle.asl_numbered.specs.Laws.{below-behind, below-drop, below-take, below-wider, keeps_longer, kept_shape}
 
 -- a name, and what a node says of its field
 abbrev pub Entry : Type 0

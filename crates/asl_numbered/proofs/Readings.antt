@@ -1,6 +1,6 @@
 -- Reading shapes into a table: references, levels, and the parts of levels one after another.
 use Rattle.std.proofs.Common.{◌≡◌, ◌<◌, ◌≤◌, ℕ, Bool, false, take, drop, Vec, zero, suc, pos, negsuc, List, [], ◌∷◌, ◌++◌, length, map, codes, Option, Some, None, Result, Ok, Err, Bor, option_map, slice_get, String, Global, string_bytes, string_cmp, refl, sym, ap, ◌∙◌, subst, arith}
-use Rattle.std.specs.Prelude.{IfOk, IfErr}
+use Rattle.std.specs.Prelude.{IfOk, IfErr, IfSome}
 use Rattle.std.specs.BTreeMap.{BTreeMap, is_at, insert_entry}
 use Rattle.std.specs.List.{Contains}
 use Rattle.std.specs.List.Sorted.{IsStrictlySortedBy}
@@ -35,12 +35,18 @@ use Rattle.asl_numbered.specs.Refusal.{numbered}
 use Rattle.asl_model.specs.References.{reference_among, meant_by}
 use Rattle.asl_numbered.specs.References.{reference_in, referred, numbers_given, shapes_given, SpellsWith, by_reference, by_level, SpellsOver, with_none_inside, with_kinds, SpellsArrays, without_arrays, with_elements, SpellsObjects, without_objects, with_properties, SpellEach, no_element, and_element, SpellsRest, no_rest, some_rest, SpellFields, no_field, and_field, inside, each_of, values_of, is_itself, stands_inside, TellsOf}
 use Rattle.asl_numbered.proofs.Appending.{names, appended}
-use Rattle.asl_numbered.proofs.Expansions.{as_many, below-append, below-wider, keeps_longer, kept_shape}
+use Rattle.asl_numbered.proofs.Expansions.{as_many}
 use Rattle.asl_numbered.specs.TakenApart.{arrays_of, objects_of, kinds_at}
 use Rattle.asl_numbered.specs.declared.kinds.KindNumbers.{KindNumbers}
 use Rattle.asl_numbered.proofs.Growing.{numbers_kept, fields_kept, numbers_push}
+use Rattle.asl_numbered.specs.Laws.{below-append, below-wider, keeps_longer, kept_shape, kept_shapes}
 
 -- ---- numbers that are given
+
+-- numbers below the count of the shapes are below that of the nodes
+pub given_nodes : (nodes : List Node) (given : Option (Bor (List ℕ))) → IfSome given (λ ns. AreBelow (length (expansions nodes)) ns.now) → AreGiven (length nodes) (numbers_given given)
+given_nodes nodes None h = record { below = tt }
+given_nodes nodes (Some ns) h = record { below = subst (λ bound. AreBelow bound ns.now) (as_many nodes) h }
 
 pub given_kept : (old new : List Node) (given : Option (List ℕ)) → Keeps (expansions old) (expansions new) → AreGiven (length old) given → AreGiven (length new) given
 given_kept old new None keeps h = record { below = tt }
@@ -48,14 +54,10 @@ given_kept old new (Some ns) keeps h =
     let longer : length old ≤ length new = omega (arith, as_many old, as_many new, keeps_longer (expansions old) (expansions new) keeps) in
     record { below = below-wider (length old) (length new) ns longer h.below }
 
-shapes_kept : (old new : List model.Shape) (ns : List ℕ) → Keeps old new → AreBelow (length old) ns → map (shape_at new) ns ≡ map (shape_at old) ns
-shapes_kept old new [] keeps below = refl
-shapes_kept old new (n ∷ ns) keeps below = rw (kept_shape old new n keeps below.0, shapes_kept old new ns keeps below.1) refl
-
 pub given_same : (old new : List Node) (given : Option (Bor (List ℕ))) → Keeps (expansions old) (expansions new) → AreGiven (length old) (numbers_given given) → shapes_given (expansions new) given ≡ shapes_given (expansions old) given
 given_same old new None keeps h = refl
 given_same old new (Some ns) keeps h =
-    ap Some (shapes_kept (expansions old) (expansions new) ns.now keeps (subst (λ n. AreBelow n ns.now) (sym (as_many old)) h.below))
+    ap Some (kept_shapes (expansions old) (expansions new) ns.now keeps (subst (λ n. AreBelow n ns.now) (sym (as_many old)) h.below))
 
 -- ---- references
 

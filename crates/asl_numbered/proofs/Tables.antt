@@ -16,8 +16,9 @@ use Rattle.asl_numbered.specs.declared.table.Facts.{Facts}
 use Rattle.asl_numbered.specs.Expansion.{shape_at, shape_over, parts, AreBelow, RefersBelow, AreDistinct, IsNumberOf, Keeps, expansions}
 use Rattle.asl_numbered.specs.Kinds.{AreSeveral, HasProperParts, IsProperNode}
 use Rattle.asl_numbered.specs.Table.{AreFactsOf, IsOrdered, IsTable}
-use Rattle.asl_numbered.proofs.Expansions.{below-wider, shape_at_stays, list_stays, pushed, as_many, level}
+use Rattle.asl_numbered.proofs.Expansions.{shape_at_stays, list_stays, pushed, as_many, level}
 use Rattle.asl_numbered.proofs.Sameness.{equal, same-shape, alike-equal}
+use Rattle.asl_numbered.specs.Laws.{below-wider}
 
 -- the shapes of the nodes
 abbrev pub shapes_in : List (Node × Facts) → List model.Shape

@@ -10,7 +10,8 @@ use Rattle.asl_numbered.specs.declared.kinds.NodeArrays.{NodeArrays}
 use Rattle.asl_numbered.specs.declared.kinds.NodeObjects.{NodeObjects}
 use Rattle.asl_numbered.specs.Expansion.{shape_at, AreBelow, IsNumberOf, AreDistinct, Keeps}
 use Rattle.asl_numbered.specs.TakenApart.{arrays_over, objects_over, kinds_over, both_kinds, AreArraysIfAny, AreObjectsIfAny, AreKindsAt, AreListed, part_if}
-use Rattle.asl_numbered.proofs.Expansions.{below-append, below-wider, keeps_longer, list_stays}
+use Rattle.asl_numbered.proofs.Expansions.{list_stays}
+use Rattle.asl_numbered.specs.Laws.{below-append, below-wider, keeps_longer}
 
 -- ---- kinds of two
 

@@ -10,8 +10,8 @@ use Rattle.asl_model.proofs.ShapeExample.{proper-ordered}
 use Rattle.asl_model.proofs.ShapeOutside.{mentions-some}
 use Rattle.asl_numbered.specs.declared.pair.Pair.{Pair}
 use Rattle.asl_numbered.specs.Comparison.{IsWithin}
-use Rattle.asl_numbered.specs.Expansion.{shape_at}
-use Rattle.asl_numbered.specs.Joins.{joint, Shows}
+use Rattle.asl_numbered.specs.Expansion.{shape_at, Shows}
+use Rattle.asl_numbered.specs.Joins.{joint}
 use Rattle.asl_numbered.specs.Kinds.{tidy, tidy_arrays, tidy_objects, tidy_places, tidy_fields}
 
 or_itself : (a : Bool) → (a || a) ≡ a

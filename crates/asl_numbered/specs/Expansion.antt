@@ -69,6 +69,11 @@ expansions nodes = expansions_after [] nodes
 pub record AreDistinct (table : List model.Shape) : Type 0 where
   pub apart : (m n : ℕ) → m < length table → n < length table → shape_at table m ≡ shape_at table n → m ≡ n
 
+-- the number is in the table, and its shape is that one
+pub record Shows (table : List model.Shape) (s : model.Shape) (n : ℕ) : Type 0 where
+  pub within : n < length table
+  pub same : shape_at table n ≡ s
+
 -- the number is that of the shape in the table, and no other is
 pub record IsNumberOf (table : List model.Shape) (s : model.Shape) (n : ℕ) : Type 0 where
   pub within : n < length table

@@ -23,16 +23,11 @@ use Rattle.asl_numbered.specs.declared.pair.Pair.{Pair}
 use Rattle.asl_numbered.specs.declared.joining.JoinTask.{JoinTask}
 use Rattle.asl_numbered.specs.declared.joining.JoinTask.TheVariants.{Join, Nothing, With, Finish}
 use Rattle.asl_numbered.specs.Comparison.{IsWithin}
-use Rattle.asl_numbered.specs.Expansion.{shape_at, shapes_at, fields_at, shape_over, numbers_in, parts, AreBelow, RefersBelow}
+use Rattle.asl_numbered.specs.Expansion.{shape_at, shapes_at, fields_at, shape_over, numbers_in, parts, AreBelow, RefersBelow, Shows}
 
 -- the join of the shapes of a pair
 abbrev pub joint : List Shape → Pair → Shape
 joint table p = join (shape_at table p.first) (shape_at table p.second)
-
--- the number is in the table, and its shape is that one
-pub record Shows (table : List Shape) (s : Shape) (n : ℕ) : Type 0 where
-  pub within : n < length table
-  pub same : shape_at table n ≡ s
 
 -- ---- what is remembered
 

@@ -1,8 +1,10 @@
+pub mod Coding
 pub mod Comparison
 pub mod Examples
 pub mod Expansion
 pub mod Joins
 pub mod Kinds
+pub mod Laws
 pub mod Outside
 pub mod Reading
 pub mod References

@@ -14,7 +14,7 @@ use std::alloc::Global;
 use std::collections::BTreeMap;
 
 /// The number of the shape.
-#[tactic(auto, using(crate::proofs::Expansions::simple_refers, crate::proofs::Expansions::keeps_trans))]
+#[tactic(auto, using(crate::proofs::Expansions::simple_refers, crate::specs::Laws::keeps_trans))]
 #[cycle(add)]
 pub(crate) fn add(table: &mut Table, alloc: Global, shape: &Shape) -> Result<usize, OutOfMemory>
     ensures number { IfOk result (IsNumberOf (expansions table.new) (view shape.now)) }
@@ -37,7 +37,7 @@ pub(crate) fn add(table: &mut Table, alloc: Global, shape: &Shape) -> Result<usi
 }
 
 // The number of the shape of these lists alone, if there are any.
-#[tactic(auto, using(crate::proofs::Expansions::keeps_trans))]
+#[tactic(auto, using(crate::specs::Laws::keeps_trans))]
 #[cycle(add)]
 fn add_arrays(
     table: &mut Table,
@@ -60,7 +60,7 @@ fn add_arrays(
 }
 
 // The number of the shape of these objects alone, if there are any.
-#[tactic(auto, using(crate::proofs::Expansions::keeps_trans))]
+#[tactic(auto, using(crate::specs::Laws::keeps_trans))]
 #[cycle(add)]
 fn add_objects(
     table: &mut Table,
@@ -83,7 +83,7 @@ fn add_objects(
 }
 
 // The numbers of the shapes, in order.
-#[tactic(auto, using(crate::proofs::Growing::no_numbers, crate::proofs::Expansions::keeps_same, crate::proofs::Expansions::keeps_trans))]
+#[tactic(auto, using(crate::proofs::Growing::no_numbers, crate::specs::Laws::keeps_same, crate::specs::Laws::keeps_trans))]
 #[cycle(add)]
 fn add_all(table: &mut Table, alloc: Global, shapes: &[Shape]) -> Result<Vec<usize>, OutOfMemory>
     ensures numbers { IfOk result
@@ -99,7 +99,7 @@ fn add_all(table: &mut Table, alloc: Global, shapes: &[Shape]) -> Result<Vec<usi
 }
 
 // The fields, with the numbers of their shapes.
-#[tactic(auto, using(crate::proofs::Growing::no_fields, crate::proofs::Growing::fields_end, crate::proofs::Expansions::keeps_same, crate::proofs::Expansions::keeps_trans))]
+#[tactic(auto, using(crate::proofs::Growing::no_fields, crate::proofs::Growing::fields_end, crate::specs::Laws::keeps_same, crate::specs::Laws::keeps_trans))]
 #[cycle(add)]
 fn add_fields(
     table: &mut Table,

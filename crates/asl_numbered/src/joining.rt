@@ -12,8 +12,8 @@ ghost use Rattle.asl_model.specs.ShapeOrder as order;
 ghost use Rattle.asl_numbered.specs.declared.joining.JoinTask.TheVariants.{Join, Finish};
 ghost use Rattle.asl_numbered.specs.declared.joining.Part.TheVariants.{Level};
 ghost use Rattle.asl_numbered.specs.Comparison.{IsWithin};
-ghost use Rattle.asl_numbered.specs.Expansion.{expansions, shape_at, AreBelow, Keeps};
-ghost use Rattle.asl_numbered.specs.Joins.{joint, kept, Shows, AreJoins, AreInhabited, IsTaskWithin, IsFed, Moves, AreArraysWithin, AreObjectsWithin, AreKindsWithin, AreKindsOf, AreMadeOf, IsPartWithin, IsPutPart, AreJoined, IsArrayJoin, IsObjectJoin, AreJoinedFields, AreWithOthers, IsListOf, array_joins, step_of, found_in, place_joinings, joinings_with, list_joinings, array_joinings, object_joinings, field_joinings};
+ghost use Rattle.asl_numbered.specs.Expansion.{expansions, shape_at, AreBelow, Keeps, Shows};
+ghost use Rattle.asl_numbered.specs.Joins.{joint, kept, AreJoins, AreInhabited, IsTaskWithin, IsFed, Moves, AreArraysWithin, AreObjectsWithin, AreKindsWithin, AreKindsOf, AreMadeOf, IsPartWithin, IsPutPart, AreJoined, IsArrayJoin, IsObjectJoin, AreJoinedFields, AreWithOthers, IsListOf, array_joins, step_of, found_in, place_joinings, joinings_with, list_joinings, array_joinings, object_joinings, field_joinings};
 ghost use Rattle.asl_numbered.specs.TakenApart.{arrays_over, objects_over, taken_apart, AreKindsAt};
 ghost use Rattle.std.specs.Prelude.{◌≡◌, ◌<◌, ◌++◌, List, None, Some, IfSome, IfOk, drop, false, length};
 

@@ -1,6 +1,6 @@
 // Shapes under numbers.
-ghost use Rattle.std.specs.Prelude.{◌≡◌, ◌<◌, ◌↔◌, ℕ, List, [], length, IsTrue, IsSome, IfSome, IfOk, IfErr, Some, None, true, false, slice_get};
-ghost use Rattle.std.specs.Option.{option_copied, option_map};
+ghost use Rattle.std.specs.Prelude.{◌≡◌, ◌<◌, ◌↔◌, ℕ, List, [], length, IsTrue, IsSome, IfSome, IfOk, IfErr, Some, None, true, false};
+ghost use Rattle.std.specs.Option.{option_map};
 ghost use Rattle.asl_model.specs.Examples as examples;
 ghost use Rattle.asl_model.specs.Examples.{IsOutside};
 ghost use Rattle.asl_model.specs.Shape as model;
@@ -13,7 +13,7 @@ ghost use Rattle.asl_shape.specs.View.{view};
 ghost use Rattle.asl_shape.specs.Spelled as trees;
 ghost use Rattle.asl_tree.specs.View.{view as tree_view};
 ghost use Rattle.serde_json.specs.View.{view as value_view};
-ghost use Rattle.asl_numbered.specs.Expansion.{expansions, shape_at, shape_over, AreBelow, AreDistinct, RefersBelow, IsNumberOf, Keeps};
+ghost use Rattle.asl_numbered.specs.Expansion.{shape_at, shape_over, AreBelow, AreDistinct, RefersBelow, IsNumberOf, Keeps};
 ghost use Rattle.asl_numbered.specs.Kinds.{IsProperNode};
 ghost use Rattle.asl_numbered.specs.References.{shapes_given, SpellsWith, TellsOf, TellsFault};
 ghost use Rattle.asl_numbered.specs.TakenApart.{taken_apart, kinds_at, AreKindsAt};
@@ -42,9 +42,8 @@ use serde_json::Value;
 use std::alloc::Global;
 use std::marker::Model;
 
-/// Distinct shapes, each under a number, counted from 0. Contracts see the list of their first levels, where each node
-/// has numbers of earlier ones alone; `expansions` are the shapes themselves. A number keeps its shape, whatever is
-/// added, and also where a call runs out of memory, which may leave further entries.
+/// Distinct shapes, each under a number, counted from 0. Contracts see the list of them. A number keeps its shape,
+/// whatever is added, and also where a call runs out of memory, which may leave further entries.
 #[derive(Drop)]
 pub struct Shapes {
     alloc: Global,
@@ -56,17 +55,17 @@ pub struct Shapes {
 impl Model for Shapes {
     ghost use Rattle.std.specs.Prelude.{List};
     ghost use Rattle.std.specs.Coded.{coded_list};
-    ghost use Rattle.asl_numbered.specs.contracts.node.Node.{the_row};
-    ghost use Rattle.asl_numbered.specs.declared.node.Node.{Node as Level};
+    ghost use Rattle.asl_model.specs.Shape.{Shape as ModelShape};
+    ghost use Rattle.asl_numbered.specs.Coding.{coded_shape};
     ghost use Rattle.asl_numbered.specs.Comparison.{AreRight};
     ghost use Rattle.asl_numbered.specs.Expansion.{expansions};
     ghost use Rattle.asl_numbered.specs.Joins.{AreJoins};
 
-    ghost Value = { List Level };
+    ghost Value = { List ModelShape };
 
-    ghost coded = { coded_list the_row.coded };
+    ghost coded = { coded_list coded_shape };
 
-    ghost view = { λ s. s.table };
+    ghost view = { λ s. expansions s.table };
 
     ghost invariant = { λ s. AreRight (expansions s.table) s.compared.entries
         × AreJoins (expansions s.table) s.joined.entries };
@@ -86,6 +85,7 @@ impl Shapes {
     }
 
     /// How many shapes there are: the numbers below it are theirs. Takes no memory.
+    #[tactic(auto, using(crate::proofs::Expansions::as_many))]
     pub fn len(&self) -> usize
         ensures counted { result ≡ length self.now }
     {
@@ -94,7 +94,7 @@ impl Shapes {
 
     /// No shape stands under two numbers. Reads nothing, and takes no memory.
     pub fn are_distinct(&self)
-        ensures distinct { AreDistinct (expansions self.now) }
+        ensures distinct { AreDistinct self.now }
     {
         self.table.are_distinct();
     }
@@ -102,20 +102,19 @@ impl Shapes {
     /// Each shape is proper: in the shapes of objects the names of fields are UTF-8 and stand in byte order. Reads nothing,
     /// and takes no memory.
     pub fn are_proper(&self)
-        ensures proper { (n : ℕ) → model.IsProperShape (shape_at (expansions self.now) n) }
+        ensures proper { (n : ℕ) → model.IsProperShape (shape_at self.now n) }
     {
         self.table.are_proper();
     }
 
     /// The first level of the shape of that number; `None` where there is none. Takes no memory.
+    #[tactic(auto, using(crate::proofs::Expansions::as_many))]
     pub fn node(&self, number: usize) -> Option<&Node>
-        ensures exactly { option_copied result ≡ slice_get self.now number }
         ensures there { IsSome result ↔ number < length self.now }
         ensures level { IfSome result
-            (λ node. shape_over (expansions self.now) node.now
-            ≡ shape_at (expansions self.now) number) }
+            (λ node. shape_over self.now node.now ≡ shape_at self.now number) }
         ensures earlier { IfSome result (λ node. RefersBelow number node.now) }
-        ensures proper { IfSome result (λ node. IsProperNode (expansions self.now) node.now) }
+        ensures proper { IfSome result (λ node. IsProperNode self.now node.now) }
     {
         self.table.node(number)
     }
@@ -123,35 +122,34 @@ impl Shapes {
     /// What the shape of that number takes of each kind: `None` where it is `Any`, nothing where there is no such number.
     /// Takes no memory. Whoever goes over shapes by this need not tell a shape of one kind from one of several.
     pub fn take_apart(&self, number: usize) -> Option<NodeKinds<'_>>
-        ensures shown { taken_apart (expansions self.now) result
-            ≡ shape_at (expansions self.now) number }
-        ensures within { IfSome result (AreKindsAt (expansions self.now) number) }
+        ensures shown { taken_apart self.now result ≡ shape_at self.now number }
+        ensures within { IfSome result (AreKindsAt self.now number) }
     {
         take_apart(&self.table, number)
     }
 
     /// Whether some tree has the shape of that number; `None` where there is none. Takes no memory.
+    #[tactic(auto, using(crate::proofs::Expansions::as_many))]
     pub fn inhabited(&self, number: usize) -> Option<bool>
         ensures there { IsSome result ↔ number < length self.now }
-        ensures as_defined { IfSome result
-            (λ b. b ≡ model.inhabited (shape_at (expansions self.now) number)) }
+        ensures as_defined { IfSome result (λ b. b ≡ model.inhabited (shape_at self.now number)) }
     {
         self.table.inhabited(number)
     }
 
     /// Whether the shape of that number, or one inside it, is of several kinds; `None` where there is none. Takes no
     /// memory.
+    #[tactic(auto, using(crate::proofs::Expansions::as_many))]
     pub fn has_several(&self, number: usize) -> Option<bool>
         ensures there { IsSome result ↔ number < length self.now }
-        ensures as_defined { IfSome result
-            (λ b. b ≡ model.has_several (shape_at (expansions self.now) number)) }
+        ensures as_defined { IfSome result (λ b. b ≡ model.has_several (shape_at self.now number)) }
     {
         self.table.has_several(number)
     }
 
     /// Whether every tree has the shape of that number: it is `Any`, or takes all trees of each kind. Takes no memory.
     pub fn takes_all(&self, number: usize) -> bool
-        ensures as_defined { result ≡ order.takes_all (shape_at (expansions self.now) number) }
+        ensures as_defined { result ≡ order.takes_all (shape_at self.now number) }
     {
         self.table.takes_all(number)
     }
@@ -159,14 +157,13 @@ impl Shapes {
     /// The number of the shape whose first level is the node, and whose parts are the shapes of the node's numbers;
     /// `None` where one of these isn't below the length, or where the parts of a node of several aren't two or more, each
     /// of one kind, in byte order of the names of their types. Refuses only where an allocation was refused.
+    #[tactic(auto, using(crate::proofs::Expansions::as_many))]
     pub fn add_node(&mut self, node: Node) -> Result<Option<usize>, OutOfMemory>
         ensures exactly { IfOk result
-            (λ r. IsSome r ↔ RefersBelow (length self.old) node
-            × IsProperNode (expansions self.old) node) }
+            (λ r. IsSome r ↔ RefersBelow (length self.old) node × IsProperNode self.old node) }
         ensures number { IfOk result
-            (λ r. IfSome r (IsNumberOf (expansions self.new)
-            (shape_over (expansions self.old) node))) }
-        ensures keeps { Keeps (expansions self.old) (expansions self.new) }
+            (λ r. IfSome r (IsNumberOf self.new (shape_over self.old node))) }
+        ensures keeps { Keeps self.old self.new }
     {
         self.table.add_node(node)
     }
@@ -174,26 +171,25 @@ impl Shapes {
     /// The number of the shape of these kinds: that of `Never` where there is none; where there is one, that of a shape of
     /// this kind alone. Refuses only where an allocation was refused.
     pub fn add_kinds(&mut self, kinds: KindNumbers) -> Result<usize, OutOfMemory>
-        ensures number { IfOk result
-            (IsNumberOf (expansions self.new) (kinds_at (expansions self.old) kinds)) }
-        ensures keeps { Keeps (expansions self.old) (expansions self.new) }
+        ensures number { IfOk result (IsNumberOf self.new (kinds_at self.old kinds)) }
+        ensures keeps { Keeps self.old self.new }
     {
         put_kinds(&mut self.table, self.alloc, kinds)
     }
 
     /// The number of the shape. Refuses only where an allocation was refused.
     pub fn add(&mut self, shape: &Shape) -> Result<usize, OutOfMemory>
-        ensures number { IfOk result (IsNumberOf (expansions self.new) (view shape.now)) }
-        ensures keeps { Keeps (expansions self.old) (expansions self.new) }
+        ensures number { IfOk result (IsNumberOf self.new (view shape.now)) }
+        ensures keeps { Keeps self.old self.new }
     {
         add(&mut self.table, self.alloc, shape)
     }
 
     /// The shape of that number, a proper one; `None` where there is none. Refuses only where an allocation was refused.
+    #[tactic(auto, using(crate::proofs::Expansions::as_many))]
     pub fn expand(&self, number: usize) -> Result<Option<Shape>, OutOfMemory>
         ensures exactly { IfOk result (λ r. IsSome r ↔ number < length self.now) }
-        ensures shape { IfOk result
-            (λ r. IfSome r (λ s. view s ≡ shape_at (expansions self.now) number)) }
+        ensures shape { IfOk result (λ r. IfSome r (λ s. view s ≡ shape_at self.now number)) }
         ensures proper { IfOk result (λ r. IfSome r (λ s. IsTrue (is_proper s))) }
     {
         if number < self.table.len() {
@@ -206,17 +202,16 @@ impl Shapes {
     /// Whether every tree of the first number's shape has the second's; `None` where one of the numbers isn't below the
     /// length. The answer is remembered, as those for the shapes' parts are that were looked at on the way, so that none is
     /// found out twice. Refuses only where an allocation was refused.
+    #[tactic(auto, using(crate::proofs::Expansions::as_many))]
     pub fn sub(&mut self, inner: usize, outer: usize) -> Result<Option<bool>, OutOfMemory>
         ensures there { IfOk result
             (λ r. IsSome r ↔ (inner < length self.old) × (outer < length self.old)) }
         ensures as_defined { IfOk result
-            (λ r. IfSome r (λ b. b
-            ≡ order.sub (shape_at (expansions self.old) inner)
-            (shape_at (expansions self.old) outer))) }
+            (λ r. IfSome r (λ b. b ≡ order.sub (shape_at self.old inner)
+            (shape_at self.old outer))) }
         ensures exactly { IfOk result
-            (λ r. IfSome r (λ b. IsTrue b
-            ↔ model.Inside (shape_at (expansions self.old) inner)
-            (shape_at (expansions self.old) outer))) }
+            (λ r. IfSome r (λ b. IsTrue b ↔ model.Inside (shape_at self.old inner)
+            (shape_at self.old outer))) }
         ensures unchanged { self.new ≡ self.old }
     {
         sub_means_inside();
@@ -242,15 +237,13 @@ impl Shapes {
     /// one is asked for as a whole before it is made. Refuses only where an allocation was refused.
     pub fn example(&self, alloc: Global, number: usize) -> Result<Option<Tree>, OutOfMemory>
         ensures exactly { IfOk result
-            (λ r. IsSome r ↔ IsTrue (model.inhabited (shape_at (expansions self.now) number))) }
+            (λ r. IsSome r ↔ IsTrue (model.inhabited (shape_at self.now number))) }
         ensures as_defined { IfOk result
-            (λ r. IfSome r (λ t. tree_view t
-            ≡ examples.example (shape_at (expansions self.now) number))) }
+            (λ r. IfSome r (λ t. tree_view t ≡ examples.example (shape_at self.now number))) }
         ensures has { IfOk result
-            (λ r. IfSome r (λ t. model.Has (shape_at (expansions self.now) number) (tree_view t))) }
+            (λ r. IfSome r (λ t. model.Has (shape_at self.now number) (tree_view t))) }
         ensures none { IfOk result
-            (λ r. r ≡ None
-            → (t : json.Tree) → model.Has (shape_at (expansions self.now) number) t → ⊥) }
+            (λ r. r ≡ None → (t : json.Tree) → model.Has (shape_at self.now number) t → ⊥) }
     {
         examples_have_their_shapes();
         uninhabited_means_no_tree();
@@ -268,6 +261,7 @@ impl Shapes {
     ///
     /// The comparisons on the way are remembered as those of [`Shapes::sub`], so that none is found out twice. Room for a
     /// large tree is asked for as in [`Shapes::example`]. Refuses only where an allocation was refused.
+    #[tactic(auto, using(crate::proofs::Expansions::as_many))]
     pub fn outside(
         &mut self,
         alloc: Global,
@@ -277,17 +271,14 @@ impl Shapes {
         ensures within { IfOk result
             (λ r. IsSome r → (inner < length self.old) × (outer < length self.old)) }
         ensures as_defined { IfOk result
-            (λ r. inner < length self.old → outer < length self.old
-            → option_map tree_view r
-            ≡ examples.outside (shape_at (expansions self.old) inner)
-            (shape_at (expansions self.old) outer)) }
+            (λ r. inner < length self.old → outer < length self.old → option_map tree_view r
+            ≡ examples.outside (shape_at self.old inner) (shape_at self.old outer)) }
         ensures outside { IfOk result
-            (λ r. IfSome r (λ t. IsOutside (shape_at (expansions self.old) inner)
-            (shape_at (expansions self.old) outer) (tree_view t))) }
+            (λ r. IfSome r (λ t. IsOutside (shape_at self.old inner)
+            (shape_at self.old outer) (tree_view t))) }
         ensures none { IfOk result
             (λ r. inner < length self.old → outer < length self.old → r ≡ None
-            → model.Inside (shape_at (expansions self.old) inner)
-            (shape_at (expansions self.old) outer)) }
+            → model.Inside (shape_at self.old inner) (shape_at self.old outer)) }
         ensures unchanged { self.new ≡ self.old }
     {
         sub_means_inside();
@@ -307,20 +298,18 @@ impl Shapes {
     /// The number of the join of the two shapes, as `join` of `asl_shape` makes it: every tree of either has it; `None`
     /// where one of the numbers isn't below the length. The answer is remembered, as those for the shapes' parts are that
     /// were joined on the way, so that none is found out twice. Refuses only where an allocation was refused.
+    #[tactic(auto, using(crate::proofs::Expansions::as_many))]
     pub fn join(&mut self, first: usize, second: usize) -> Result<Option<usize>, OutOfMemory>
         ensures exactly { IfOk result
             (λ r. IsSome r ↔ (first < length self.old) × (second < length self.old)) }
         ensures as_defined { IfOk result
-            (λ r. IfSome r (IsNumberOf (expansions self.new)
-            (order.join (shape_at (expansions self.old) first)
-            (shape_at (expansions self.old) second)))) }
+            (λ r. IfSome r (IsNumberOf self.new (order.join (shape_at self.old first)
+            (shape_at self.old second)))) }
         ensures above { IfOk result
-            (λ r. IfSome r (λ number.
-            model.Inside (shape_at (expansions self.old) first)
-            (shape_at (expansions self.new) number)
-            × model.Inside (shape_at (expansions self.old) second)
-            (shape_at (expansions self.new) number))) }
-        ensures keeps { Keeps (expansions self.old) (expansions self.new) }
+            (λ r. IfSome r (λ number. model.Inside (shape_at self.old first)
+            (shape_at self.new number) × model.Inside (shape_at self.old second)
+            (shape_at self.new number))) }
+        ensures keeps { Keeps self.old self.new }
     {
         join_is_above_both();
         if first < self.table.len() && second < self.table.len() {
@@ -347,18 +336,17 @@ impl Shapes {
         given: Option<&[usize]>,
     ) -> Result<usize, NumberedRefusal>
         requires given { IfSome given (λ ns. AreBelow (length self.old) ns.now) }
-        ensures number { IfOk result
-            (λ n. IsNumberOf (expansions self.new) (shape_at (expansions self.new) n) n) }
+        ensures number { IfOk result (λ n. IsNumberOf self.new (shape_at self.new n) n) }
         ensures spelled { IfOk result
-            (λ n. SpellsWith true (shapes_given (expansions self.old) given.entry)
-            (tree_view tree.now) (shape_at (expansions self.new) n)) }
+            (λ n. SpellsWith true (shapes_given self.old given.entry)
+            (tree_view tree.now) (shape_at self.new n)) }
         ensures spelled_alone { given.entry ≡ None → IfOk result
-            (λ n. SpellsShape (tree_view tree.now) (shape_at (expansions self.new) n)) }
+            (λ n. SpellsShape (tree_view tree.now) (shape_at self.new n)) }
         ensures refused { IfErr result
-            (TellsOf true (shapes_given (expansions self.old) given.entry) (tree_view tree.now)) }
+            (TellsOf true (shapes_given self.old given.entry) (tree_view tree.now)) }
         ensures refused_alone { given.entry ≡ None
             → IfErr result (TellsFault true (tree_view tree.now)) }
-        ensures keeps { Keeps (expansions self.old) (expansions self.new) }
+        ensures keeps { Keeps self.old self.new }
     {
         let value = asl_tree::to_value(self.alloc, tree)?;
         self.read_spelled(&value, given, true)
@@ -372,18 +360,17 @@ impl Shapes {
         given: Option<&[usize]>,
     ) -> Result<usize, NumberedRefusal>
         requires given { IfSome given (λ ns. AreBelow (length self.old) ns.now) }
-        ensures number { IfOk result
-            (λ n. IsNumberOf (expansions self.new) (shape_at (expansions self.new) n) n) }
+        ensures number { IfOk result (λ n. IsNumberOf self.new (shape_at self.new n) n) }
         ensures spelled { IfOk result
-            (λ n. SpellsWith false (shapes_given (expansions self.old) given.entry)
-            (tree_view tree.now) (shape_at (expansions self.new) n)) }
+            (λ n. SpellsWith false (shapes_given self.old given.entry)
+            (tree_view tree.now) (shape_at self.new n)) }
         ensures spelled_alone { given.entry ≡ None → IfOk result
-            (λ n. SpellsShapeV1 (tree_view tree.now) (shape_at (expansions self.new) n)) }
+            (λ n. SpellsShapeV1 (tree_view tree.now) (shape_at self.new n)) }
         ensures refused { IfErr result
-            (TellsOf false (shapes_given (expansions self.old) given.entry) (tree_view tree.now)) }
+            (TellsOf false (shapes_given self.old given.entry) (tree_view tree.now)) }
         ensures refused_alone { given.entry ≡ None
             → IfErr result (TellsFault false (tree_view tree.now)) }
-        ensures keeps { Keeps (expansions self.old) (expansions self.new) }
+        ensures keeps { Keeps self.old self.new }
     {
         let value = asl_tree::to_value(self.alloc, tree)?;
         self.read_spelled(&value, given, false)
@@ -399,22 +386,20 @@ impl Shapes {
         given: Option<&[usize]>,
     ) -> Result<usize, NumberedRefusal>
         requires given { IfSome given (λ ns. AreBelow (length self.old) ns.now) }
-        ensures number { IfOk result
-            (λ n. IsNumberOf (expansions self.new) (shape_at (expansions self.new) n) n) }
+        ensures number { IfOk result (λ n. IsNumberOf self.new (shape_at self.new n) n) }
         ensures spelled { IfOk result
             (λ n. (t : json.Tree) → tree_of (value_view value.now) ≡ Some t
-            → SpellsWith true (shapes_given (expansions self.old) given.entry) t
-            (shape_at (expansions self.new) n)) }
+            → SpellsWith true (shapes_given self.old given.entry) t (shape_at self.new n)) }
         ensures spelled_alone { given.entry ≡ None → IfOk result
             (λ n. (t : json.Tree) → tree_of (value_view value.now) ≡ Some t
-            → SpellsShape t (shape_at (expansions self.new) n)) }
+            → SpellsShape t (shape_at self.new n)) }
         ensures refused { IfErr result
             (λ e. (t : json.Tree) → tree_of (value_view value.now) ≡ Some t
-            → TellsOf true (shapes_given (expansions self.old) given.entry) t e) }
+            → TellsOf true (shapes_given self.old given.entry) t e) }
         ensures refused_alone { given.entry ≡ None → IfErr result
             (λ e. (t : json.Tree) → tree_of (value_view value.now) ≡ Some t
             → TellsFault true t e) }
-        ensures keeps { Keeps (expansions self.old) (expansions self.new) }
+        ensures keeps { Keeps self.old self.new }
     {
         self.read_spelled(value, given, true)
     }
@@ -426,22 +411,20 @@ impl Shapes {
         given: Option<&[usize]>,
     ) -> Result<usize, NumberedRefusal>
         requires given { IfSome given (λ ns. AreBelow (length self.old) ns.now) }
-        ensures number { IfOk result
-            (λ n. IsNumberOf (expansions self.new) (shape_at (expansions self.new) n) n) }
+        ensures number { IfOk result (λ n. IsNumberOf self.new (shape_at self.new n) n) }
         ensures spelled { IfOk result
             (λ n. (t : json.Tree) → tree_of (value_view value.now) ≡ Some t
-            → SpellsWith false (shapes_given (expansions self.old) given.entry) t
-            (shape_at (expansions self.new) n)) }
+            → SpellsWith false (shapes_given self.old given.entry) t (shape_at self.new n)) }
         ensures spelled_alone { given.entry ≡ None → IfOk result
             (λ n. (t : json.Tree) → tree_of (value_view value.now) ≡ Some t
-            → SpellsShapeV1 t (shape_at (expansions self.new) n)) }
+            → SpellsShapeV1 t (shape_at self.new n)) }
         ensures refused { IfErr result
             (λ e. (t : json.Tree) → tree_of (value_view value.now) ≡ Some t
-            → TellsOf false (shapes_given (expansions self.old) given.entry) t e) }
+            → TellsOf false (shapes_given self.old given.entry) t e) }
         ensures refused_alone { given.entry ≡ None → IfErr result
             (λ e. (t : json.Tree) → tree_of (value_view value.now) ≡ Some t
             → TellsFault false t e) }
-        ensures keeps { Keeps (expansions self.old) (expansions self.new) }
+        ensures keeps { Keeps self.old self.new }
     {
         self.read_spelled(value, given, false)
     }
@@ -454,15 +437,13 @@ impl Shapes {
         several: bool,
     ) -> Result<usize, NumberedRefusal>
         requires given { IfSome given (λ ns. AreBelow (length self.old) ns.now) }
-        ensures number { IfOk result
-            (λ n. IsNumberOf (expansions self.new) (shape_at (expansions self.new) n) n) }
+        ensures number { IfOk result (λ n. IsNumberOf self.new (shape_at self.new n) n) }
         ensures spelled { IfOk result
-            (λ n. SpellsWith several (shapes_given (expansions self.old) given.entry)
-            (trees.view value.now) (shape_at (expansions self.new) n)) }
+            (λ n. SpellsWith several (shapes_given self.old given.entry)
+            (trees.view value.now) (shape_at self.new n)) }
         ensures refused { IfErr result
-            (TellsOf several (shapes_given (expansions self.old) given.entry)
-            (trees.view value.now)) }
-        ensures keeps { Keeps (expansions self.old) (expansions self.new) }
+            (TellsOf several (shapes_given self.old given.entry) (trees.view value.now)) }
+        ensures keeps { Keeps self.old self.new }
     {
         let answer = read(&mut self.table, self.alloc, value, given, several);
         self.table.are_distinct();

@@ -10,15 +10,14 @@ use Rattle.asl_model.specs.Tree.{Tree}
 use Rattle.asl_model.specs.Records.{Reading, RecordComplaint, certificate_reading, certificate_rows, state_rows, listed_complaints, listed_from, listed_in, entries_complaints, members_in, members_under}
 use Rattle.asl_records.specs.Parts.{TellsOneOf, certified, certified_complaints, field_complaints, foreign_complaints, is_number, listed_row, reading_of, shape_row, entries_row, version_row, members_there, shape_there, states_complaints, states_there, trees_there, unlisted, value_in}
 use Rattle.asl_records.specs.declared.refusals.ReadFault.{ReadFault}
-use Rattle.asl_numbered.specs.Expansion.{expansions, IsNumberOf, Keeps}
-use Rattle.asl_numbered.specs.declared.node.Node.{Node}
-use Rattle.asl_numbered.proofs.Expansions.{as_many}
+use Rattle.asl_numbered.specs.Expansion.{IsNumberOf, Keeps}
+use Rattle.asl_model.specs.Shape.{Shape}
 use Rattle.asl_numbered.specs.References.{numbers_given}
+use Rattle.asl_numbered.specs.Laws.{kept_shape}
 use Rattle.asl_records.specs.Listed.{IsReading}
 use Rattle.asl_records.specs.Numbered.{numbered_view}
 use Rattle.asl_records.specs.Numbering.{AreStatesOf}
 use Rattle.asl_records.specs.declared.records.NumberedCertificate.{NumberedCertificate}
-use Rattle.asl_records.proofs.Kept.{shown as shown_still}
 use Rattle.asl_records.proofs.Meant.{IsLent, kept_items, lent_meant}
 use Rattle.asl_records.proofs.Objects.{names_of, parts, shown}
 use Rattle.asl_records.proofs.Telling.{told_all, told_same}
@@ -123,11 +122,11 @@ module _ (reading : Reading) where
   stands_for v ms fields is output states = rw (output, states, is) refl
 
 -- what was read of the output and of the states makes the certificate, in a table that grew between
-pub numbered_for : (listed : Option (List Tree)) (one : List Node) (numbered : NumberedCertificate) (output states : Option Data) → IsNumberOf (expansions one) (shape_there listed output) numbered.output → Keeps (expansions one) (expansions numbered.shapes)
+pub numbered_for : (listed : Option (List Tree)) (one : List Shape) (numbered : NumberedCertificate) (output states : Option Data) → IsNumberOf one (shape_there listed output) numbered.output → Keeps one numbered.shapes
     → AreStatesOf numbered.shapes (states_there listed states) numbered.states.entries → numbered_view numbered ≡ record { output = shape_there listed output; states = states_there listed states }
 numbered_for listed one numbered output states number keeps are =
-    let below : numbered.output < length one = omega (arith, number.within, as_many one) in
-    rw (shown_still one numbered.shapes keeps numbered.output below, number.same, are.same) refl
+    let below : numbered.output < length one = number.within in
+    rw (kept_shape one numbered.shapes numbered.output keeps below, number.same, are.same) refl
 
 -- ---- how its shapes are read
 
@@ -136,8 +135,8 @@ pub is_its_reading : (several : Bool) (v : Data) (ms : Members) → as_object v 
 is_its_reading several v ms is version = rw (version, is) refl
 
 -- the numbers of its list mean its trees
-pub reading_meant : (several : Bool) (nodes : List Node) (kept : Option (Vec ℕ Global)) (lent : Option (Bor (List ℕ))) (v : Data) (ms : Members) (fields : List (String Global × Value)) → as_object v ≡ Some ms → value_in (codes "shapes") fields ≡ get_member (codes "shapes") ms
-    → IsLent kept lent → IsReading several nodes (kept_items kept) (reading_of several (trees_there (value_in (codes "shapes") fields))) → IsReading several nodes (numbers_given lent) (reading_of several (listed_in (members_in v)))
-reading_meant several nodes kept lent v ms fields is there lends means =
+pub reading_meant : (several : Bool) (table : List Shape) (kept : Option (Vec ℕ Global)) (lent : Option (Bor (List ℕ))) (v : Data) (ms : Members) (fields : List (String Global × Value)) → as_object v ≡ Some ms → value_in (codes "shapes") fields ≡ get_member (codes "shapes") ms
+    → IsLent kept lent → IsReading several table (kept_items kept) (reading_of several (trees_there (value_in (codes "shapes") fields))) → IsReading several table (numbers_given lent) (reading_of several (listed_in (members_in v)))
+reading_meant several table kept lent v ms fields is there lends means =
     let same : trees_there (value_in (codes "shapes") fields) ≡ listed_in (members_in v) = ap trees_there there ∙ ap listed_in (sym (ap (λ o. unwrap_or o json.no_members) is)) in
-    lent_meant several nodes kept lent (reading_of several (listed_in (members_in v))) lends (subst (λ trees. IsReading several nodes (kept_items kept) (reading_of several trees)) same means)
+    lent_meant several table kept lent (reading_of several (listed_in (members_in v))) lends (subst (λ trees. IsReading several table (kept_items kept) (reading_of several trees)) same means)

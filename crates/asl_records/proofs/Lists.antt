@@ -9,9 +9,8 @@ use Rattle.asl_model.specs.Json.{tree_of, elements_of}
 use Rattle.asl_model.specs.Shape.{Shape}
 use Rattle.asl_model.specs.Tree as model
 use Rattle.asl_model.specs.Records.{Reading, shape_misfits, shapes_misfits, shape_from, shapes_from}
-use Rattle.asl_numbered.specs.Expansion.{expansions, IsNumberOf, Keeps}
-use Rattle.asl_numbered.specs.declared.node.Node.{Node}
-use Rattle.asl_numbered.proofs.Expansions.{keeps_same, keeps_trans}
+use Rattle.asl_numbered.specs.Expansion.{IsNumberOf, Keeps}
+use Rattle.asl_numbered.specs.Laws.{keeps_same, keeps_trans}
 use Rattle.asl_records.specs.Listed.{AreInTable, ForReading}
 use Rattle.asl_records.specs.Numbering.{AreListOf}
 use Rattle.asl_records.specs.Parts.{TellsOneOf, IsWhole, ElementsAreWhole, complaint_of, shape_complaints, shapes_complaints}
@@ -47,17 +46,17 @@ none_mapped f (x ∷ xs) e = absurd (cc)
 -- where shapes are read so
 module _ (reading : Reading) where
   -- so far numbers were read, nothing was wrong, and the elements that are left make up the rest
-  pub record ReadsNumbers (now : List Node) (all left : List Value) (ns : List ℕ) : Type 0 where
+  pub record ReadsNumbers (now : List Shape) (all left : List Value) (ns : List ℕ) : Type 0 where
     pub done : List Shape
     pub numbered : AreListOf now done ns
     pub wrong : shapes_misfits reading (items_view all) ≡ shapes_misfits reading (items_view left)
     pub shapes : shapes_from reading.listed (items_view all) ≡ done ++ shapes_from reading.listed (items_view left)
 
-  numbers_begun : (nodes : List Node) (all left : List Value) (ns : List ℕ) → left ≡ all → ns ≡ [] → ReadsNumbers nodes all left ns
-  numbers_begun nodes all left ns same none = rw (same, none) (record { done = []; numbered = none_listed nodes; wrong = refl; shapes = refl })
+  numbers_begun : (table : List Shape) (all left : List Value) (ns : List ℕ) → left ≡ all → ns ≡ [] → ReadsNumbers table all left ns
+  numbers_begun table all left ns same none = rw (same, none) (record { done = []; numbered = none_listed table; wrong = refl; shapes = refl })
 
-  numbers_gone_on : (name field : List ℕ) (now new : List Node) (all left rest : List Value) (ns more : List ℕ) (v : Value) (n : ℕ) → ReadsNumbers now all left ns → left ≡ v ∷ rest → Keeps (expansions now) (expansions new)
-      → shape_complaints reading name field (view v) ≡ [] → IsNumberOf (expansions new) (shape_from reading.listed (view v)) n → more ≡ ns ++ n ∷ [] → ReadsNumbers new all rest more
+  numbers_gone_on : (name field : List ℕ) (now new : List Shape) (all left rest : List Value) (ns more : List ℕ) (v : Value) (n : ℕ) → ReadsNumbers now all left ns → left ≡ v ∷ rest → Keeps now new
+      → shape_complaints reading name field (view v) ≡ [] → IsNumberOf new (shape_from reading.listed (view v)) n → more ≡ ns ++ n ∷ [] → ReadsNumbers new all rest more
   numbers_gone_on name field now new all left rest ns more v n h split keeps right is made =
       let s = shape_from reading.listed (view v) in
       record {
@@ -67,7 +66,7 @@ module _ (reading : Reading) where
         shapes = h.shapes ∙ ap (λ vs. h.done ++ shapes_from reading.listed (items_view vs)) split ∙ sym (append_assoc h.done (s ∷ []) (shapes_from reading.listed (items_view rest)));
       }
 
-  numbers_told : (name field : List ℕ) (now : List Node) (all left rest : List Value) (ns : List ℕ) (v : Value) (fault : ReadFault) → ReadsNumbers now all left ns → left ≡ v ∷ rest
+  numbers_told : (name field : List ℕ) (now : List Shape) (all left rest : List Value) (ns : List ℕ) (v : Value) (fault : ReadFault) → ReadsNumbers now all left ns → left ≡ v ∷ rest
       → TellsOneOf (shape_complaints reading name field (view v)) fault → TellsOneOf (shapes_complaints reading name field (items_view all)) fault
   numbers_told name field now all left rest ns v fault h split told =
       let tell = complaint_of name field in
@@ -75,37 +74,37 @@ module _ (reading : Reading) where
       ap (map tell) (h.wrong ∙ ap (λ vs. shapes_misfits reading (items_view vs)) split) ∙ map-append tell (shape_misfits reading (view v)) (shapes_misfits reading (items_view rest)) in
       told_same fault _ _ (told_left fault (shape_complaints reading name field (view v)) (shapes_complaints reading name field (items_view rest)) told) (sym wrong)
 
-  numbers_right : (name field : List ℕ) (now : List Node) (all left : List Value) (ns : List ℕ) → ReadsNumbers now all left ns → left ≡ [] → shapes_complaints reading name field (items_view all) ≡ []
+  numbers_right : (name field : List ℕ) (now : List Shape) (all left : List Value) (ns : List ℕ) → ReadsNumbers now all left ns → left ≡ [] → shapes_complaints reading name field (items_view all) ≡ []
   numbers_right name field now all left ns h end = ap (map (complaint_of name field)) (h.wrong ∙ ap (λ vs. shapes_misfits reading (items_view vs)) end)
 
-  numbers_read : (now : List Node) (all left : List Value) (ns : List ℕ) → ReadsNumbers now all left ns → left ≡ [] → AreListOf now (shapes_from reading.listed (items_view all)) ns
+  numbers_read : (now : List Shape) (all left : List Value) (ns : List ℕ) → ReadsNumbers now all left ns → left ≡ [] → AreListOf now (shapes_from reading.listed (items_view all)) ns
   numbers_read now all left ns h end =
       subst (λ ss. AreListOf now ss ns) (sym (h.shapes ∙ ap (λ vs. h.done ++ shapes_from reading.listed (items_view vs)) end ∙ append-nil h.done)) h.numbered
 
 -- ---- however shapes are read, and whatever trees the given numbers mean
 
-module _ (several : Bool) (given : Option (Bor (List ℕ))) (start : List Node) where
-  pub record ReadsFor (now : List Node) (all left : List Value) (ns : List ℕ) : Type 0 where
-    pub keeps : Keeps (expansions start) (expansions now)
+module _ (several : Bool) (given : Option (Bor (List ℕ))) (start : List Shape) where
+  pub record ReadsFor (now : List Shape) (all left : List Value) (ns : List ℕ) : Type 0 where
+    pub keeps : Keeps start now
     pub whole : ElementsAreWhole (items_view left)
     pub reads : ForReading several start given (λ reading. ReadsNumbers reading now all left ns)
 
   pub begun : (all left : List Value) (ns : List ℕ) → ElementsAreWhole (items_view all) → left ≡ all → ns ≡ [] → ReadsFor start all left ns
   begun all left ns whole same none = record {
-    keeps = keeps_same (expansions start);
+    keeps = keeps_same start;
     whole = subst (λ vs. ElementsAreWhole (items_view vs)) (sym same) whole;
     reads = record { each = λ reading means. numbers_begun reading start all left ns same none };
   }
 
   -- the next element is whole
-  pub next_whole : (now : List Node) (all left rest : List Value) (ns : List ℕ) (v : Value) → ReadsFor now all left ns → left ≡ v ∷ rest → IsWhole (view v)
+  pub next_whole : (now : List Shape) (all left rest : List Value) (ns : List ℕ) (v : Value) → ReadsFor now all left ns → left ≡ v ∷ rest → IsWhole (view v)
   next_whole now all left rest ns v h split = head_whole (view v) (items_view rest) (subst (λ vs. ElementsAreWhole (items_view vs)) split h.whole)
 
   -- one more element was read
-  pub gone_on : (name field : List ℕ) (now new : List Node) (all left rest : List Value) (ns more : List ℕ) (v : Value) (n : ℕ) → AreInTable start given → ReadsFor now all left ns → left ≡ v ∷ rest → Keeps (expansions now) (expansions new)
-      → ForReading several now given (λ reading. shape_complaints reading name field (view v) ≡ []) → ForReading several now given (λ reading. IsNumberOf (expansions new) (shape_from reading.listed (view v)) n) → more ≡ ns ++ n ∷ [] → ReadsFor new all rest more
+  pub gone_on : (name field : List ℕ) (now new : List Shape) (all left rest : List Value) (ns more : List ℕ) (v : Value) (n : ℕ) → AreInTable start given → ReadsFor now all left ns → left ≡ v ∷ rest → Keeps now new
+      → ForReading several now given (λ reading. shape_complaints reading name field (view v) ≡ []) → ForReading several now given (λ reading. IsNumberOf new (shape_from reading.listed (view v)) n) → more ≡ ns ++ n ∷ [] → ReadsFor new all rest more
   gone_on name field now new all left rest ns more v n there h split keeps right is made = record {
-    keeps = keeps_trans (expansions start) (expansions now) (expansions new) h.keeps keeps;
+    keeps = keeps_trans start now new h.keeps keeps;
     whole = tail_whole (view v) (items_view rest) (subst (λ vs. ElementsAreWhole (items_view vs)) split h.whole);
     reads = record {
       each = λ reading means.
@@ -115,15 +114,15 @@ module _ (several : Bool) (given : Option (Bor (List ℕ))) (start : List Node) 
   }
 
   -- what is told of the next element is told of all
-  pub next_told : (name field : List ℕ) (now : List Node) (all left rest : List Value) (ns : List ℕ) (v : Value) (fault : ReadFault) → AreInTable start given → ReadsFor now all left ns → left ≡ v ∷ rest
+  pub next_told : (name field : List ℕ) (now : List Shape) (all left rest : List Value) (ns : List ℕ) (v : Value) (fault : ReadFault) → AreInTable start given → ReadsFor now all left ns → left ≡ v ∷ rest
       → ForReading several now given (λ reading. TellsOneOf (shape_complaints reading name field (view v)) fault) → ForReading several start given (λ reading. TellsOneOf (shapes_complaints reading name field (items_view all)) fault)
   next_told name field now all left rest ns v fault there h split told = record {
     each = λ reading means. numbers_told reading name field now all left rest ns v fault (h.reads.each reading means) split (told.each reading (still_meant start now h.keeps given reading there means));
   }
 
   -- at the end
-  pub none_wrong : (name field : List ℕ) (now : List Node) (all left : List Value) (ns : List ℕ) → ReadsFor now all left ns → left ≡ [] → ForReading several start given (λ reading. shapes_complaints reading name field (items_view all) ≡ [])
+  pub none_wrong : (name field : List ℕ) (now : List Shape) (all left : List Value) (ns : List ℕ) → ReadsFor now all left ns → left ≡ [] → ForReading several start given (λ reading. shapes_complaints reading name field (items_view all) ≡ [])
   none_wrong name field now all left ns h end = record { each = λ reading means. numbers_right reading name field now all left ns (h.reads.each reading means) end }
 
-  pub all_read : (now : List Node) (all left : List Value) (ns : List ℕ) → ReadsFor now all left ns → left ≡ [] → ForReading several start given (λ reading. AreListOf now (shapes_from reading.listed (items_view all)) ns)
+  pub all_read : (now : List Shape) (all left : List Value) (ns : List ℕ) → ReadsFor now all left ns → left ≡ [] → ForReading several start given (λ reading. AreListOf now (shapes_from reading.listed (items_view all)) ns)
   all_read now all left ns h end = record { each = λ reading means. numbers_read reading now all left ns (h.reads.each reading means) end }

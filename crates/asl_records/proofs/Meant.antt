@@ -3,23 +3,23 @@ use Rattle.std.proofs.Common.{◌≡◌, ℕ, List, length, Bool, Option, Some, 
 use Rattle.std.specs.Option.{IsSomeAnd}
 use Rattle.asl_model.specs.Records.{Reading}
 use Rattle.asl_model.specs.Tree.{Tree}
-use Rattle.asl_numbered.specs.Expansion.{expansions, Keeps}
+use Rattle.asl_numbered.specs.Expansion.{Keeps}
 use Rattle.asl_numbered.specs.References.{numbers_given}
-use Rattle.asl_numbered.specs.declared.node.Node.{Node}
+use Rattle.asl_numbered.specs.Laws.{kept_numbers, kept_shapes}
+use Rattle.asl_model.specs.Shape.{Shape}
 use Rattle.asl_records.specs.Listed.{AreInTable, Mean, IsReading}
-use Rattle.asl_records.proofs.Kept.{list_within, list_shown}
 
-module _ (old new : List Node) (keeps : Keeps (expansions old) (expansions new)) where
+module _ (old new : List Shape) (keeps : Keeps old new) where
   -- the numbers are still there
   pub still_there : (numbers : Option (Bor (List ℕ))) → AreInTable old numbers → AreInTable new numbers
   still_there None h = record { below = tt }
-  still_there (Some ns) h = record { below = list_within old new keeps ns.now h.below }
+  still_there (Some ns) h = record { below = kept_numbers old new ns.now keeps h.below }
 
-  mean : (several : Bool) (numbers : Option (Bor (List ℕ))) (listed : Option (List Tree)) → AreInTable old numbers → Mean several (expansions old) (numbers_given numbers) listed → Mean several (expansions new) (numbers_given numbers) listed
+  mean : (several : Bool) (numbers : Option (Bor (List ℕ))) (listed : Option (List Tree)) → AreInTable old numbers → Mean several old (numbers_given numbers) listed → Mean several new (numbers_given numbers) listed
   mean several None None within meant = meant
   mean several None (Some trees) within meant = meant
   mean several (Some ns) None within meant = meant
-  mean several (Some ns) (Some trees) within meant = record { shapes = meant.shapes ∙ sym (list_shown old new keeps ns.now within.below); right = meant.right }
+  mean several (Some ns) (Some trees) within meant = record { shapes = meant.shapes ∙ sym (kept_shapes old new ns.now keeps within.below); right = meant.right }
 
   -- and mean the same
   pub still_meant : {several : Bool} (numbers : Option (Bor (List ℕ))) (reading : Reading) → AreInTable old numbers → IsReading several old (numbers_given numbers) reading → IsReading several new (numbers_given numbers) reading
@@ -40,5 +40,5 @@ lent_same None (Some ns) h = absurd (cc)
 lent_same (Some v) None h = absurd h
 lent_same (Some v) (Some ns) h = ap Some h.0
 
-pub lent_meant : (several : Bool) (nodes : List Node) (kept : Option (Vec ℕ Global)) (lent : Option (Bor (List ℕ))) (reading : Reading) → IsLent kept lent → IsReading several nodes (kept_items kept) reading → IsReading several nodes (numbers_given lent) reading
-lent_meant several nodes kept lent reading is means = subst (λ ns. IsReading several nodes ns reading) (sym (lent_same kept lent is)) means
+pub lent_meant : (several : Bool) (table : List Shape) (kept : Option (Vec ℕ Global)) (lent : Option (Bor (List ℕ))) (reading : Reading) → IsLent kept lent → IsReading several table (kept_items kept) reading → IsReading several table (numbers_given lent) reading
+lent_meant several table kept lent reading is means = subst (λ ns. IsReading several table ns reading) (sym (lent_same kept lent is)) means

@@ -11,13 +11,12 @@ use Rattle.asl_model.specs.ShapeOrder.{is_any_shape}
 use Rattle.asl_model.specs.Tree as json
 use Rattle.asl_model.specs.Written.{written_shape, written_list, written_entries, written_state, certificate_written, version_of, some_shapes, array_fields, needed_names, as_texts}
 use Rattle.asl_model.specs.WrittenNumbered.{same_shape, place_of, shapes_listed, reference, referring, places_referring, fields_referring, with_arrays_over, written_over, written_numbered}
-use Rattle.asl_numbered.specs.Expansion.{expansions, shape_at, shapes_at, fields_at, numbers_in}
+use Rattle.asl_numbered.specs.Expansion.{shape_at, shapes_at, fields_at, numbers_in}
 use Rattle.asl_numbered.specs.TakenApart.{AreArraysIfAny, AreObjectsIfAny}
 use Rattle.asl_numbered.specs.declared.kinds.NodeArrays.{NodeArrays}
 use Rattle.asl_numbered.specs.declared.kinds.NodeObjects.{NodeObjects}
-use Rattle.asl_numbered.proofs.Expansions.{below-wider}
-use Rattle.asl_numbered.specs.declared.node.Node.{Node}
 use Rattle.asl_numbered.specs.declared.node.NodeField.{NodeField}
+use Rattle.asl_numbered.specs.Laws.{below-wider}
 use Rattle.asl_tree.specs.View as trees
 use Rattle.asl_tree.specs.declared.Tree.{Tree}
 use Rattle.asl_tree.specs.declared.Tree as tree
@@ -47,24 +46,24 @@ place_within s (t ∷ listed) i at = go (same_shape s t) (place_of s listed) (pl
     go false None further i e = absurd (cc)
     go false (Some j) further i e = let next : suc j ≡ i = cc in omega (arith, next, further j refl)
 
-module _ (nodes : List Node) (listing : Listing) (placed : IsPlaced nodes listing) (n : ℕ) (within : n < length nodes) (read : Option ℕ) (is : read ≡ get_or listing.places.items n read) where
+module _ (table : List Shape) (listing : Listing) (placed : IsPlaced table listing) (n : ℕ) (within : n < length table) (read : Option ℕ) (is : read ≡ get_or listing.places.items n read) where
   abbrev shape : Shape
-  shape = shape_at (expansions nodes) n
+  shape = shape_at table n
 
-  has_place : place_of shape (listed_shapes nodes listing) ≡ read
+  has_place : place_of shape (listed_shapes table listing) ≡ read
   has_place = sym (placed.places n within) ∙ (get_or_default listing.places.items n None read (omega (arith, within, placed.counted)) ∙ sym is)
 
   -- a place is a whole number that a tree can have
   pub place_fits : (place : ℕ) → read ≡ Some place → place < 2 ^ 63
   place_fits place some =
-      let below = place_within shape (listed_shapes nodes listing) place (has_place ∙ some) in
-      let counted = length-map listing.order.items (shape_at (expansions nodes)) in
+      let below = place_within shape (listed_shapes table listing) place (has_place ∙ some) in
+      let counted = length-map listing.order.items (shape_at table) in
       omega (arith, below, counted, listing.order.ok.0, listing.order.ok.1, listing.order.small)
 
-  pub refers : (place : ℕ) → read ≡ Some place → reference place ≡ referring (listed_shapes nodes listing) shape
+  pub refers : (place : ℕ) → read ≡ Some place → reference place ≡ referring (listed_shapes table listing) shape
   refers place some = sym (ap (λ o. unwrap_or (option_map reference o) (written_shape shape)) (has_place ∙ some))
 
-  pub stands_itself : read ≡ None → written_shape shape ≡ referring (listed_shapes nodes listing) shape
+  pub stands_itself : read ≡ None → written_shape shape ≡ referring (listed_shapes table listing) shape
   stands_itself none = sym (ap (λ o. unwrap_or (option_map reference o) (written_shape shape)) (has_place ∙ none))
 
 -- ---- places and fields
@@ -173,5 +172,5 @@ module _ (table : List Shape) (proper : (n : ℕ) → IsProperShape (shape_at ta
   proper_states [] = tt
   proper_states (e ∷ entries) = (record { input = proper e.1.input; output = proper e.1.output; branches = proper_list e.1.branches.items; item = proper_item e.1.item }, proper_states entries)
 
-pub certificate_proper : (certificate : NumberedCertificate) → ((n : ℕ) → IsProperShape (shape_at (expansions certificate.shapes) n)) → HoldsForCertificate IsProperShape (numbered_view certificate)
-certificate_proper certificate proper = record { output = proper certificate.output; states = proper_states (expansions certificate.shapes) proper certificate.states.entries }
+pub certificate_proper : (certificate : NumberedCertificate) → ((n : ℕ) → IsProperShape (shape_at certificate.shapes n)) → HoldsForCertificate IsProperShape (numbered_view certificate)
+certificate_proper certificate proper = record { output = proper certificate.output; states = proper_states certificate.shapes proper certificate.states.entries }

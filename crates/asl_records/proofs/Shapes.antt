@@ -14,9 +14,8 @@ use Rattle.asl_shape.specs.declared.ShapeRefusal.TheVariants as shape
 use Rattle.asl_shape.specs.Refusal.{Tells, fault_named}
 use Rattle.asl_numbered.proofs.Plain.{spells_plain, tells_plain}
 use Rattle.asl_numbered.proofs.SpelledOut.{AreSpelledIn, has_fault_out, spells_out, wrong_number_out}
-use Rattle.asl_numbered.specs.Expansion.{expansions, shape_at, IsNumberOf}
+use Rattle.asl_numbered.specs.Expansion.{shape_at, IsNumberOf}
 use Rattle.asl_numbered.specs.References.{numbers_given, shapes_given, SpellsWith, TellsOf}
-use Rattle.asl_numbered.specs.declared.node.Node.{Node}
 use Rattle.asl_numbered.specs.declared.NumberedRefusal.{NumberedRefusal}
 use Rattle.asl_numbered.specs.declared.NumberedRefusal.TheVariants as numbered
 use Rattle.asl_records.specs.Listed.{AreMeant, IsReading, Mean}
@@ -96,25 +95,25 @@ read_so several table (Some ns) (Some trees) t s meant h =
     record { none_wrong = rw (out.right, out.spells.none_wrong) refl; same = out.spells.same }
 
 -- a way to read has its own trees, and lists of types as it says
-as_said : (several : Bool) (nodes : List Node) (numbers : Option (Bor (List ℕ))) (reading : Reading) → IsReading several nodes (numbers_given numbers) reading → reading_of several reading.listed ≡ reading
-as_said several nodes numbers reading is = ap (λ b. reading_of b reading.listed) (sym is.same)
+as_said : (several : Bool) (table : List Shape) (numbers : Option (Bor (List ℕ))) (reading : Reading) → IsReading several table (numbers_given numbers) reading → reading_of several reading.listed ≡ reading
+as_said several table numbers reading is = ap (λ b. reading_of b reading.listed) (sym is.same)
 
-read_as : (several : Bool) (nodes : List Node) (numbers : Option (Bor (List ℕ))) (reading : Reading) (t : Tree) (s : Shape) → IsReading several nodes (numbers_given numbers) reading → SpellsWith several (shapes_given (expansions nodes) numbers) t s → IsReadAs reading t s
-read_as several nodes numbers reading t s is h =
-    subst (λ r. IsReadAs r t s) (as_said several nodes numbers reading is) (read_so several (expansions nodes) numbers reading.listed t s is.meant h)
+read_as : (several : Bool) (table : List Shape) (numbers : Option (Bor (List ℕ))) (reading : Reading) (t : Tree) (s : Shape) → IsReading several table (numbers_given numbers) reading → SpellsWith several (shapes_given table numbers) t s → IsReadAs reading t s
+read_as several table numbers reading t s is h =
+    subst (λ r. IsReadAs r t s) (as_said several table numbers reading is) (read_so several table numbers reading.listed t s is.meant h)
 
-pub none_wrong_in : (several : Bool) (nodes new : List Node) (numbers : Option (Bor (List ℕ))) (reading : Reading) (name field : List ℕ) (v : Data) (t : Tree) (n : ℕ) → tree_of v ≡ Some t → IsReading several nodes (numbers_given numbers) reading
-    → SpellsWith several (shapes_given (expansions nodes) numbers) t (shape_at (expansions new) n) → shape_complaints reading name field v ≡ []
-none_wrong_in several nodes new numbers reading name field v t n is means h =
-    let read = read_as several nodes numbers reading t (shape_at (expansions new) n) means h in
+pub none_wrong_in : (several : Bool) (table new : List Shape) (numbers : Option (Bor (List ℕ))) (reading : Reading) (name field : List ℕ) (v : Data) (t : Tree) (n : ℕ) → tree_of v ≡ Some t → IsReading several table (numbers_given numbers) reading
+    → SpellsWith several (shapes_given table numbers) t (shape_at new n) → shape_complaints reading name field v ≡ []
+none_wrong_in several table new numbers reading name field v t n is means h =
+    let read = read_as several table numbers reading t (shape_at new n) means h in
     complaints_shown reading name field v t is ∙ ap (map (complaint_of name field)) read.none_wrong
 
-pub number_in : (several : Bool) (nodes new : List Node) (numbers : Option (Bor (List ℕ))) (reading : Reading) (v : Data) (t : Tree) (n : ℕ) → tree_of v ≡ Some t → IsReading several nodes (numbers_given numbers) reading
-    → SpellsWith several (shapes_given (expansions nodes) numbers) t (shape_at (expansions new) n) → IsNumberOf (expansions new) (shape_at (expansions new) n) n → IsNumberOf (expansions new) (shape_from reading.listed v) n
-number_in several nodes new numbers reading v t n is means h number =
-    let read = read_as several nodes numbers reading t (shape_at (expansions new) n) means h in
+pub number_in : (several : Bool) (table new : List Shape) (numbers : Option (Bor (List ℕ))) (reading : Reading) (v : Data) (t : Tree) (n : ℕ) → tree_of v ≡ Some t → IsReading several table (numbers_given numbers) reading
+    → SpellsWith several (shapes_given table numbers) t (shape_at new n) → IsNumberOf new (shape_at new n) n → IsNumberOf new (shape_from reading.listed v) n
+number_in several table new numbers reading v t n is means h number =
+    let read = read_as several table numbers reading t (shape_at new n) means h in
     let from : shape_from reading.listed v ≡ shape_of (plain reading.listed t) = rw is refl in
-    subst (λ s. IsNumberOf (expansions new) s n) (sym (from ∙ read.same)) number
+    subst (λ s. IsNumberOf new s n) (sym (from ∙ read.same)) number
 
 tells : (several : Bool) (table : List Shape) (numbers : Option (Bor (List ℕ))) (listed : Option (List Tree)) (refusal : NumberedRefusal) (name field : List ℕ) (v : Data) (t : Tree) → tree_of v ≡ Some t → Mean several table (numbers_given numbers) listed → TellsOf several (shapes_given table numbers) t refusal
     → IfSome (fault_told refusal) (λ f. Contains (shape_complaints (reading_of several listed) name field v) (complaint_of name field f))
@@ -141,11 +140,11 @@ tells several table (Some ns) (Some trees) numbered.BadNumber name field v t is 
 tells several table (Some ns) (Some trees) numbered.OutOfMemory name field v t is meant told = tt
 
 -- a refusal of the tree for a table names a complaint about the value
-pub number_refusal_listed : (several : Bool) (nodes : List Node) (numbers : Option (Bor (List ℕ))) (reading : Reading) (refusal : NumberedRefusal) (name field : List ℕ) (v : Data) (t : Tree) → tree_of v ≡ Some t → IsReading several nodes (numbers_given numbers) reading
-    → TellsOf several (shapes_given (expansions nodes) numbers) t refusal → IfSome (fault_told refusal) (λ f. Contains (shape_complaints reading name field v) (complaint_of name field f))
-number_refusal_listed several nodes numbers reading refusal name field v t is means told =
-    subst (λ r. IfSome (fault_told refusal) (λ f. Contains (shape_complaints r name field v) (complaint_of name field f))) (as_said several nodes numbers reading means)
-    (tells several (expansions nodes) numbers reading.listed refusal name field v t is means.meant told)
+pub number_refusal_listed : (several : Bool) (table : List Shape) (numbers : Option (Bor (List ℕ))) (reading : Reading) (refusal : NumberedRefusal) (name field : List ℕ) (v : Data) (t : Tree) → tree_of v ≡ Some t → IsReading several table (numbers_given numbers) reading
+    → TellsOf several (shapes_given table numbers) t refusal → IfSome (fault_told refusal) (λ f. Contains (shape_complaints reading name field v) (complaint_of name field f))
+number_refusal_listed several table numbers reading refusal name field v t is means told =
+    subst (λ r. IfSome (fault_told refusal) (λ f. Contains (shape_complaints r name field v) (complaint_of name field f))) (as_said several table numbers reading means)
+    (tells several table numbers reading.listed refusal name field v t is means.meant told)
 
 -- ---- what is told of a refusal
 

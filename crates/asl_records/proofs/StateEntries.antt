@@ -5,9 +5,9 @@ use Rattle.std.specs.List.Sorted.{IsStrictlySortedBy}
 use Rattle.std.specs.Map.{keys_of}
 use Rattle.serde_json.specs.View.{view, members_view}
 use Rattle.asl_model.specs.Records.{Reading, object_complaints, entries_complaints, entries_from, state_rows, state_from}
-use Rattle.asl_numbered.specs.Expansion.{expansions, Keeps}
-use Rattle.asl_numbered.specs.declared.node.Node.{Node}
-use Rattle.asl_numbered.proofs.Expansions.{keeps_same, keeps_trans}
+use Rattle.asl_numbered.specs.Expansion.{Keeps}
+use Rattle.asl_numbered.specs.Laws.{keeps_same, keeps_trans}
+use Rattle.asl_model.specs.Shape.{Shape}
 use Rattle.asl_records.specs.Listed.{AreInTable, ForReading}
 use Rattle.asl_records.specs.Numbered.{numbers_view, AreEntriesBelow}
 use Rattle.asl_records.specs.Numbering.{AreStateOf, AreStatesOf}
@@ -25,64 +25,64 @@ use Rattle.asl_records.proofs.Numberings.{entries_pushed}
 -- where shapes are read so
 module _ (reading : Reading) where
   -- so far the entries es were read into the table, nothing was wrong, and those that are left make up the rest
-  pub record ReadsStates (now : List Node) (all left : List Member) (es : List Entry) : Type 0 where
+  pub record ReadsStates (now : List Shape) (all left : List Member) (es : List Entry) : Type 0 where
     pub below : AreEntriesBelow (length now) es
-    pub reads : Reads reading (numbers_view (expansions now)) state_rows (state_from reading.listed) all left es
+    pub reads : Reads reading (numbers_view now) state_rows (state_from reading.listed) all left es
 
-  states_begun : (nodes : List Node) (all left : List Member) (es : List Entry) → AreWhole (members_view all) → left ≡ all → es ≡ [] → ReadsStates nodes all left es
-  states_begun nodes all left es whole same none = record {
-    below = subst (AreEntriesBelow (length nodes)) (sym none) (record { each = tt });
-    reads = entries.begun reading (numbers_view (expansions nodes)) state_rows (state_from reading.listed) all left es whole same none;
+  states_begun : (table : List Shape) (all left : List Member) (es : List Entry) → AreWhole (members_view all) → left ≡ all → es ≡ [] → ReadsStates table all left es
+  states_begun table all left es whole same none = record {
+    below = subst (AreEntriesBelow (length table)) (sym none) (record { each = tt });
+    reads = entries.begun reading (numbers_view table) state_rows (state_from reading.listed) all left es whole same none;
   }
 
-  states_gone_on : (now new : List Node) (all left rest : List Member) (es more : List Entry) (e : Member) (n : List ℕ) (numbers : StateNumbers) → ReadsStates now all left es → left ≡ e ∷ rest → IsStrictlySortedBy string_cmp (keys_of all) → Keeps (expansions now) (expansions new)
+  states_gone_on : (now new : List Shape) (all left rest : List Member) (es more : List Entry) (e : Member) (n : List ℕ) (numbers : StateNumbers) → ReadsStates now all left es → left ≡ e ∷ rest → IsStrictlySortedBy string_cmp (keys_of all) → Keeps now new
       → n ≡ string_bytes e.0 → object_complaints reading n state_rows (view e.1) ≡ [] → AreStateOf new (state_from reading.listed (view e.1)) numbers → more ≡ insert_entry string_cmp es e.0 numbers → ReadsStates new all rest more
   states_gone_on now new all left rest es more e n numbers h split sorted keeps named right are made =
       let f = state_from reading.listed in
-      let see = numbers_view (expansions new) in
-      let reads = seen_again reading (numbers_view (expansions now)) see state_rows f all left es (entries_shown now new keeps es h.below) h.reads in
+      let see = numbers_view new in
+      let reads = seen_again reading (numbers_view now) see state_rows f all left es (entries_shown now new keeps es h.below) h.reads in
       let last = entries.goes_last reading see state_rows f all left rest es more e numbers reads split sorted made in
       record {
         below = subst (AreEntriesBelow (length new)) (sym last) (entries_pushed (length new) es (e.0, numbers) (entries_within now new keeps es h.below) are.below);
         reads = entries.gone_on reading see state_rows f all left rest es more e n numbers reads split sorted named right are.same made;
       }
 
-  states_told : (now : List Node) (all left rest : List Member) (es : List Entry) (e : Member) (n : List ℕ) (fault : ReadFault) → ReadsStates now all left es → left ≡ e ∷ rest
+  states_told : (now : List Shape) (all left rest : List Member) (es : List Entry) (e : Member) (n : List ℕ) (fault : ReadFault) → ReadsStates now all left es → left ≡ e ∷ rest
       → n ≡ string_bytes e.0 → TellsOneOf (object_complaints reading n state_rows (view e.1)) fault → TellsOneOf (entries_complaints reading state_rows (members_view all)) fault
   states_told now all left rest es e n fault h split named told =
-      entries.next_told reading (numbers_view (expansions now)) state_rows (state_from reading.listed) all left rest es e n fault h.reads split named told
+      entries.next_told reading (numbers_view now) state_rows (state_from reading.listed) all left rest es e n fault h.reads split named told
 
-  states_right : (now : List Node) (all left : List Member) (es : List Entry) → ReadsStates now all left es → left ≡ [] → entries_complaints reading state_rows (members_view all) ≡ []
-  states_right now all left es h end = entries.none_wrong reading (numbers_view (expansions now)) state_rows (state_from reading.listed) all left es h.reads end
+  states_right : (now : List Shape) (all left : List Member) (es : List Entry) → ReadsStates now all left es → left ≡ [] → entries_complaints reading state_rows (members_view all) ≡ []
+  states_right now all left es h end = entries.none_wrong reading (numbers_view now) state_rows (state_from reading.listed) all left es h.reads end
 
-  states_read : (now : List Node) (all left : List Member) (es : List Entry) → ReadsStates now all left es → left ≡ [] → AreStatesOf now (entries_from (state_from reading.listed) (members_view all)) es
+  states_read : (now : List Shape) (all left : List Member) (es : List Entry) → ReadsStates now all left es → left ≡ [] → AreStatesOf now (entries_from (state_from reading.listed) (members_view all)) es
   states_read now all left es h end =
-      record { below = h.below; same = entries.all_read reading (numbers_view (expansions now)) state_rows (state_from reading.listed) all left es h.reads end }
+      record { below = h.below; same = entries.all_read reading (numbers_view now) state_rows (state_from reading.listed) all left es h.reads end }
 
 -- ---- however shapes are read, and whatever trees the given numbers mean
 
-module _ (several : Bool) (given : Option (Bor (List ℕ))) (start : List Node) where
-  pub record StatesFor (now : List Node) (all left : List Member) (es : List Entry) : Type 0 where
-    pub keeps : Keeps (expansions start) (expansions now)
+module _ (several : Bool) (given : Option (Bor (List ℕ))) (start : List Shape) where
+  pub record StatesFor (now : List Shape) (all left : List Member) (es : List Entry) : Type 0 where
+    pub keeps : Keeps start now
     pub whole : AreWhole (members_view left)
     pub reads : ForReading several start given (λ reading. ReadsStates reading now all left es)
 
   pub begun : (all left : List Member) (es : List Entry) → AreWhole (members_view all) → left ≡ all → es ≡ [] → StatesFor start all left es
   begun all left es whole same none = record {
-    keeps = keeps_same (expansions start);
+    keeps = keeps_same start;
     whole = subst (λ ms. AreWhole (members_view ms)) (sym same) whole;
     reads = record { each = λ reading means. states_begun reading start all left es whole same none };
   }
 
   -- the next entry is whole
-  pub next_whole : (now : List Node) (all left rest : List Member) (es : List Entry) (e : Member) → StatesFor now all left es → left ≡ e ∷ rest → IsWhole (view e.1)
+  pub next_whole : (now : List Shape) (all left rest : List Member) (es : List Entry) (e : Member) → StatesFor now all left es → left ≡ e ∷ rest → IsWhole (view e.1)
   next_whole now all left rest es e h split = head_whole (string_bytes e.0) (view e.1) (members_view rest) (subst (λ ms. AreWhole (members_view ms)) split h.whole)
 
   -- one more entry was read
-  pub gone_on : (now new : List Node) (all left rest : List Member) (es more : List Entry) (e : Member) (n : List ℕ) (numbers : StateNumbers) → AreInTable start given → StatesFor now all left es → left ≡ e ∷ rest → IsStrictlySortedBy string_cmp (keys_of all) → Keeps (expansions now) (expansions new)
+  pub gone_on : (now new : List Shape) (all left rest : List Member) (es more : List Entry) (e : Member) (n : List ℕ) (numbers : StateNumbers) → AreInTable start given → StatesFor now all left es → left ≡ e ∷ rest → IsStrictlySortedBy string_cmp (keys_of all) → Keeps now new
       → n ≡ string_bytes e.0 → ForReading several now given (λ reading. object_complaints reading n state_rows (view e.1) ≡ []) → ForReading several now given (λ reading. AreStateOf new (state_from reading.listed (view e.1)) numbers) → more ≡ insert_entry string_cmp es e.0 numbers → StatesFor new all rest more
   gone_on now new all left rest es more e n numbers there h split sorted keeps named right are made = record {
-    keeps = keeps_trans (expansions start) (expansions now) (expansions new) h.keeps keeps;
+    keeps = keeps_trans start now new h.keeps keeps;
     whole = tail_whole (string_bytes e.0) (view e.1) (members_view rest) (subst (λ ms. AreWhole (members_view ms)) split h.whole);
     reads = record {
       each = λ reading means.
@@ -92,15 +92,15 @@ module _ (several : Bool) (given : Option (Bor (List ℕ))) (start : List Node) 
   }
 
   -- what is told of the next entry is told of all
-  pub next_told : (now : List Node) (all left rest : List Member) (es : List Entry) (e : Member) (n : List ℕ) (fault : ReadFault) → AreInTable start given → StatesFor now all left es → left ≡ e ∷ rest
+  pub next_told : (now : List Shape) (all left rest : List Member) (es : List Entry) (e : Member) (n : List ℕ) (fault : ReadFault) → AreInTable start given → StatesFor now all left es → left ≡ e ∷ rest
       → n ≡ string_bytes e.0 → ForReading several now given (λ reading. TellsOneOf (object_complaints reading n state_rows (view e.1)) fault) → ForReading several start given (λ reading. TellsOneOf (entries_complaints reading state_rows (members_view all)) fault)
   next_told now all left rest es e n fault there h split named told = record {
     each = λ reading means. states_told reading now all left rest es e n fault (h.reads.each reading means) split named (told.each reading (still_meant start now h.keeps given reading there means));
   }
 
   -- at the end
-  pub none_wrong : (now : List Node) (all left : List Member) (es : List Entry) → StatesFor now all left es → left ≡ [] → ForReading several start given (λ reading. entries_complaints reading state_rows (members_view all) ≡ [])
+  pub none_wrong : (now : List Shape) (all left : List Member) (es : List Entry) → StatesFor now all left es → left ≡ [] → ForReading several start given (λ reading. entries_complaints reading state_rows (members_view all) ≡ [])
   none_wrong now all left es h end = record { each = λ reading means. states_right reading now all left es (h.reads.each reading means) end }
 
-  pub all_read : (now : List Node) (all left : List Member) (es : List Entry) → StatesFor now all left es → left ≡ [] → ForReading several start given (λ reading. AreStatesOf now (entries_from (state_from reading.listed) (members_view all)) es)
+  pub all_read : (now : List Shape) (all left : List Member) (es : List Entry) → StatesFor now all left es → left ≡ [] → ForReading several start given (λ reading. AreStatesOf now (entries_from (state_from reading.listed) (members_view all)) es)
   all_read now all left es h end = record { each = λ reading means. states_read reading now all left es (h.reads.each reading means) end }

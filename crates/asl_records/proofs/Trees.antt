@@ -8,21 +8,20 @@ use Rattle.asl_model.specs.References.{spelled_out}
 use Rattle.asl_model.specs.ShapeSpelling.{shape_of, shape_faults}
 use Rattle.asl_model.specs.Tree.{Tree}
 use Rattle.asl_model.specs.Records.{BadShape, listed_after, listed_misfits, number_misfits, plain_tree, shape_from, shape_misfits, tree_misfits}
-use Rattle.asl_numbered.specs.Expansion.{expansions, shape_at, AreBelow, IsNumberOf, Keeps}
-use Rattle.asl_numbered.specs.declared.node.Node.{Node}
-use Rattle.asl_numbered.proofs.Expansions.{as_many, below-append}
+use Rattle.asl_numbered.specs.Expansion.{shape_at, AreBelow, IsNumberOf, Keeps}
+use Rattle.asl_numbered.specs.Laws.{below-append, kept_numbers, kept_shapes}
+use Rattle.asl_model.specs.Shape.{Shape}
 use Rattle.asl_records.specs.Listed.{AreInTable, AreMeant, ForReading, IsReading}
 use Rattle.asl_records.specs.Parts.{TellsOneOf, IsWhole, ElementsAreWhole, complaint_of, listing_complaints, reading_of, shape_complaints}
 use Rattle.asl_records.specs.declared.refusals.ReadFault.{ReadFault}
-use Rattle.asl_records.proofs.Kept.{list_within, list_shown}
 use Rattle.asl_records.proofs.Lists.{head_whole, none_mapped, tail_whole}
 use Rattle.asl_records.proofs.Numbers.{tree_in}
 use Rattle.asl_records.proofs.Telling.{told_left, told_same}
 
 -- so far those numbers were read, which mean those trees, nothing was wrong, and the elements that are left make up the rest
-pub record ReadsListed (several : Bool) (now : List Node) (all left : List Value) (ns : List ℕ) : Type 0 where
+pub record ReadsListed (several : Bool) (now : List Shape) (all left : List Value) (ns : List ℕ) : Type 0 where
   pub trees : List Tree
-  pub meant : AreMeant several (expansions now) ns trees
+  pub meant : AreMeant several now ns trees
   pub below : AreBelow (length now) ns
   pub whole : ElementsAreWhole (items_view left)
   pub wrong : listed_misfits several [] (items_view all) ≡ listed_misfits several trees (items_view left)
@@ -34,19 +33,19 @@ no_trees = []
 none_there : (several : Bool) (i : ℕ) (t : Tree) → slice_get no_trees i ≡ Some t → shape_faults several t ≡ []
 none_there several i t e = absurd (cc)
 
-pub begun : (several : Bool) (nodes : List Node) (all left : List Value) (ns : List ℕ) → ElementsAreWhole (items_view all) → left ≡ all → ns ≡ [] → ReadsListed several nodes all left ns
-begun several nodes all left ns whole same none =
+pub begun : (several : Bool) (table : List Shape) (all left : List Value) (ns : List ℕ) → ElementsAreWhole (items_view all) → left ≡ all → ns ≡ [] → ReadsListed several table all left ns
+begun several table all left ns whole same none =
     rw (same, none) (record { trees = []; meant = record { shapes = refl; right = none_there several }; below = tt; whole = whole; wrong = refl; listed = refl })
 
 -- the next element is whole, and references in it mean the shapes that were read
-pub next_whole : (several : Bool) (now : List Node) (all left rest : List Value) (ns : List ℕ) (v : Value) → ReadsListed several now all left ns → left ≡ v ∷ rest → IsWhole (view v)
+pub next_whole : (several : Bool) (now : List Shape) (all left rest : List Value) (ns : List ℕ) (v : Value) → ReadsListed several now all left ns → left ≡ v ∷ rest → IsWhole (view v)
 next_whole several now all left rest ns v h split = head_whole (view v) (items_view rest) (subst (λ vs. ElementsAreWhole (items_view vs)) split h.whole)
 
-pub next_listed : (several : Bool) (now : List Node) (all left : List Value) (ns : List ℕ) (lent : Bor (List ℕ)) → lent.now ≡ ns → ReadsListed several now all left ns → AreInTable now (Some lent)
+pub next_listed : (several : Bool) (now : List Shape) (all left : List Value) (ns : List ℕ) (lent : Bor (List ℕ)) → lent.now ≡ ns → ReadsListed several now all left ns → AreInTable now (Some lent)
 next_listed several now all left ns lent same h = record { below = subst (AreBelow (length now)) (sym same) h.below }
 
-next_meant : (several : Bool) (now : List Node) (all left : List Value) (ns : List ℕ) (lent : Bor (List ℕ)) → lent.now ≡ ns → (h : ReadsListed several now all left ns) → IsReading several now (Some lent.now) (reading_of several (Some h.trees))
-next_meant several now all left ns lent same h = record { same = refl; meant = subst (λ ms. AreMeant several (expansions now) ms h.trees) (sym same) h.meant }
+next_meant : (several : Bool) (now : List Shape) (all left : List Value) (ns : List ℕ) (lent : Bor (List ℕ)) → lent.now ≡ ns → (h : ReadsListed several now all left ns) → IsReading several now (Some lent.now) (reading_of several (Some h.trees))
+next_meant several now all left ns lent same h = record { same = refl; meant = subst (λ ms. AreMeant several now ms h.trees) (sym same) h.meant }
 
 -- ---- one more
 
@@ -73,30 +72,30 @@ pushed_right several [] t right last (suc i) u e = none_there several i u e
 pushed_right several (x ∷ trees) t right last zero u e = right zero u e
 pushed_right several (x ∷ trees) t right last (suc i) u e = pushed_right several trees t (λ j w at. right (suc j) w at) last i u e
 
-pub gone_on : (several : Bool) (name field : List ℕ) (now new : List Node) (all left rest : List Value) (ns more : List ℕ) (lent : Bor (List ℕ)) (v : Value) (n : ℕ) → lent.now ≡ ns → ReadsListed several now all left ns → left ≡ v ∷ rest → Keeps (expansions now) (expansions new)
-    → ForReading several now (Some lent) (λ reading. shape_complaints reading name field (view v) ≡ []) → ForReading several now (Some lent) (λ reading. IsNumberOf (expansions new) (shape_from reading.listed (view v)) n) → more ≡ ns ++ n ∷ [] → ReadsListed several new all rest more
+pub gone_on : (several : Bool) (name field : List ℕ) (now new : List Shape) (all left rest : List Value) (ns more : List ℕ) (lent : Bor (List ℕ)) (v : Value) (n : ℕ) → lent.now ≡ ns → ReadsListed several now all left ns → left ≡ v ∷ rest → Keeps now new
+    → ForReading several now (Some lent) (λ reading. shape_complaints reading name field (view v) ≡ []) → ForReading several now (Some lent) (λ reading. IsNumberOf new (shape_from reading.listed (view v)) n) → more ≡ ns ++ n ∷ [] → ReadsListed several new all rest more
 gone_on several name field now new all left rest ns more lent v n same h split keeps right is made =
     let means = next_meant several now all left ns lent same h in
     let number = is.each (reading_of several (Some h.trees)) means in
     let t = plain_tree h.trees (view v) in
     let tree = right_tree several h.trees name field (view v) (next_whole several now all left rest ns v h split) (right.each (reading_of several (Some h.trees)) means) in
-    let within : n < length new = omega (arith, number.within, as_many new) in
-    let one : shape_of t ≡ shape_at (expansions new) n = tree.0 ∙ sym number.same in
-    let before : map shape_of h.trees ≡ map (shape_at (expansions new)) ns = h.meant.shapes ∙ sym (list_shown now new keeps ns h.below) in
+    let within : n < length new = number.within in
+    let one : shape_of t ≡ shape_at new n = tree.0 ∙ sym number.same in
+    let before : map shape_of h.trees ≡ map (shape_at new) ns = h.meant.shapes ∙ sym (kept_shapes now new ns keeps h.below) in
     record {
       trees = h.trees ++ t ∷ [];
-      meant = subst (λ ms. AreMeant several (expansions new) ms (h.trees ++ t ∷ [])) (sym made) (record {
-        shapes = map-append shape_of h.trees (t ∷ []) ∙ (ap₂ (λ xs x. xs ++ x ∷ []) before one ∙ sym (map-append (shape_at (expansions new)) ns (n ∷ [])));
+      meant = subst (λ ms. AreMeant several new ms (h.trees ++ t ∷ [])) (sym made) (record {
+        shapes = map-append shape_of h.trees (t ∷ []) ∙ (ap₂ (λ xs x. xs ++ x ∷ []) before one ∙ sym (map-append (shape_at new) ns (n ∷ [])));
         right = pushed_right several h.trees t h.meant.right tree.1;
       });
-      below = subst (AreBelow (length new)) (sym made) (below-append (length new) ns (n ∷ []) (list_within now new keeps ns h.below) (within, tt));
+      below = subst (AreBelow (length new)) (sym made) (below-append (length new) ns (n ∷ []) (kept_numbers now new ns keeps h.below) (within, tt));
       whole = tail_whole (view v) (items_view rest) (subst (λ vs. ElementsAreWhole (items_view vs)) split h.whole);
       wrong = h.wrong ∙ ap (λ vs. listed_misfits several h.trees (items_view vs)) split ∙ ap (λ fs. fs ++ listed_misfits several (h.trees ++ t ∷ []) (items_view rest)) (none_mapped (complaint_of name field) (shape_misfits (reading_of several (Some h.trees)) (view v)) (right.each (reading_of several (Some h.trees)) means));
       listed = h.listed ∙ ap (λ vs. listed_after h.trees (items_view vs)) split;
     }
 
 -- what is told of the next element is told of all
-pub next_told : (several : Bool) (field : List ℕ) (now : List Node) (all left rest : List Value) (ns : List ℕ) (lent : Bor (List ℕ)) (v : Value) (fault : ReadFault) → lent.now ≡ ns → ReadsListed several now all left ns → left ≡ v ∷ rest
+pub next_told : (several : Bool) (field : List ℕ) (now : List Shape) (all left rest : List Value) (ns : List ℕ) (lent : Bor (List ℕ)) (v : Value) (fault : ReadFault) → lent.now ≡ ns → ReadsListed several now all left ns → left ≡ v ∷ rest
     → ForReading several now (Some lent) (λ reading. TellsOneOf (shape_complaints reading [] field (view v)) fault) → TellsOneOf (map (complaint_of [] field) (listed_misfits several [] (items_view all))) fault
 next_told several field now all left rest ns lent v fault same h split told =
     let tell = complaint_of [] field in
@@ -106,5 +105,5 @@ next_told several field now all left rest ns lent v fault same h split told =
     told_same fault _ _ (told_left fault (shape_complaints (reading_of several (Some h.trees)) [] field (view v)) (map tell later) (told.each (reading_of several (Some h.trees)) (next_meant several now all left ns lent same h))) (sym wrong)
 
 -- at the end
-pub none_wrong : (several : Bool) (now : List Node) (all left : List Value) (ns : List ℕ) → ReadsListed several now all left ns → left ≡ [] → listing_complaints several [] (items_view all) ≡ []
+pub none_wrong : (several : Bool) (now : List Shape) (all left : List Value) (ns : List ℕ) → ReadsListed several now all left ns → left ≡ [] → listing_complaints several [] (items_view all) ≡ []
 none_wrong several now all left ns h end = ap (map (complaint_of [] _)) (h.wrong ∙ ap (λ vs. listed_misfits several h.trees (items_view vs)) end)

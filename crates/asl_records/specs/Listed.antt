@@ -6,9 +6,8 @@ use Rattle.asl_model.specs.Records.{Reading}
 use Rattle.asl_model.specs.Shape.{Shape}
 use Rattle.asl_model.specs.ShapeSpelling.{shape_of, shape_faults}
 use Rattle.asl_model.specs.Tree.{Tree}
-use Rattle.asl_numbered.specs.Expansion.{expansions, shape_at, AreBelow}
+use Rattle.asl_numbered.specs.Expansion.{shape_at, AreBelow}
 use Rattle.asl_numbered.specs.References.{numbers_given}
-use Rattle.asl_numbered.specs.declared.node.Node.{Node}
 
 -- each tree spells the shape of the number in its place, with lists of types where these may stand
 pub record AreMeant (several : Bool) (table : List Shape) (numbers : List ℕ) (trees : List Tree) : Type 0 where
@@ -23,15 +22,15 @@ Mean several table (Some numbers) None = ⊥
 Mean several table (Some numbers) (Some trees) = AreMeant several table numbers trees
 
 -- shapes are read so where lists of types may stand or not, and references mean those numbers
-pub record IsReading (several : Bool) (nodes : List Node) (numbers : Option (List ℕ)) (reading : Reading) : Type 0 where
+pub record IsReading (several : Bool) (table : List Shape) (numbers : Option (List ℕ)) (reading : Reading) : Type 0 where
   pub same : reading.several ≡ several
-  pub meant : Mean several (expansions nodes) numbers reading.listed
+  pub meant : Mean several table numbers reading.listed
 
 -- the numbers that are given are in the table
-pub record AreInTable (nodes : List Node) (numbers : Option (Bor (List ℕ))) : Type 0 where
-  pub below : IfSome numbers (λ ns. AreBelow (length nodes) ns.now)
+pub record AreInTable (table : List Shape) (numbers : Option (Bor (List ℕ))) : Type 0 where
+  pub below : IfSome numbers (λ ns. AreBelow (length table) ns.now)
 
 -- that holds for each such way to read
-pub record ForReading (several : Bool) (nodes : List Node) (numbers : Option (Bor (List ℕ)))
+pub record ForReading (several : Bool) (table : List Shape) (numbers : Option (Bor (List ℕ)))
     (P : Reading → Type 0) : Type 0 where
-  pub each : (reading : Reading) → IsReading several nodes (numbers_given numbers) reading → P reading
+  pub each : (reading : Reading) → IsReading several table (numbers_given numbers) reading → P reading

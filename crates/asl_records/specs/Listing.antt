@@ -3,12 +3,11 @@ use Rattle.std.specs.Prelude.{◌≡◌, ◌<◌, ℕ, List, [], ◌∷◌, ◌+
 use Rattle.std.specs.List.{AllByRecursion}
 use Rattle.asl_model.specs.Shape.{Shape, IsProperShape}
 use Rattle.asl_model.specs.WrittenNumbered.{place_of, is_listed, list_after_all}
-use Rattle.asl_numbered.specs.Expansion.{expansions, shape_at, numbers_in, AreBelow}
+use Rattle.asl_numbered.specs.Expansion.{shape_at, numbers_in, AreBelow}
 use Rattle.asl_numbered.specs.TakenApart.{taken_apart, AreKindsAt}
 use Rattle.asl_numbered.specs.declared.kinds.NodeArrays.{NodeArrays}
 use Rattle.asl_numbered.specs.declared.kinds.NodeKinds.{NodeKinds}
 use Rattle.asl_numbered.specs.declared.kinds.NodeObjects.{NodeObjects}
-use Rattle.asl_numbered.specs.declared.node.Node.{Node}
 use Rattle.asl_records.specs.declared.listing.Listing.{Listing}
 use Rattle.asl_records.specs.declared.listing.Task.{Task}
 use Rattle.asl_records.specs.declared.listing.Task.TheVariants.{Visit, List as Put}
@@ -16,22 +15,22 @@ use Rattle.asl_records.specs.declared.listing.Task.TheVariants.{Visit, List as P
 -- ---- what is listed
 
 -- the shapes that are listed, in order
-abbrev pub listed_shapes : List Node → Listing → List Shape
-listed_shapes nodes listing = map (shape_at (expansions nodes)) listing.order.items
+abbrev pub listed_shapes : List Shape → Listing → List Shape
+listed_shapes table listing = map (shape_at table) listing.order.items
 
 -- each number of the table has the place of its shape among those that are listed
-pub record IsPlaced (nodes : List Node) (listing : Listing) : Type 0 where
-  pub below : AreBelow (length nodes) listing.order.items
-  pub counted : length listing.places.items ≡ length nodes
-  pub places : (n : ℕ) → n < length nodes
-      → get_or listing.places.items n None ≡ place_of (shape_at (expansions nodes) n) (listed_shapes nodes listing)
+pub record IsPlaced (table : List Shape) (listing : Listing) : Type 0 where
+  pub below : AreBelow (length table) listing.order.items
+  pub counted : length listing.places.items ≡ length table
+  pub places : (n : ℕ) → n < length table
+      → get_or listing.places.items n None ≡ place_of (shape_at table n) (listed_shapes table listing)
 
 -- the listing is what a walk through some proper shapes leaves
-pub record IsListing (nodes : List Node) (listing : Listing) : Type 0 where
-  pub placed : IsPlaced nodes listing
+pub record IsListing (table : List Shape) (listing : Listing) : Type 0 where
+  pub placed : IsPlaced table listing
   pub seen : List Shape
   pub proper : AllByRecursion IsProperShape seen
-  pub listed : listed_shapes nodes listing ≡ list_after_all [] seen
+  pub listed : listed_shapes table listing ≡ list_after_all [] seen
 
 -- ---- what is left to do
 
@@ -61,16 +60,16 @@ tasks_at table n (Some kinds) =
     task_if (is_listed (shape_at table n)) (Put n) ++ (object_visits kinds.objects ++ array_visits kinds.arrays)
 
 -- the tasks for a number's shape were put down
-pub record IsOpened (nodes : List Node) (n : ℕ) (old new : List Task) : Type 0 where
+pub record IsOpened (table : List Shape) (n : ℕ) (old new : List Task) : Type 0 where
   pub kinds : Option NodeKinds
-  pub shown : taken_apart (expansions nodes) kinds ≡ shape_at (expansions nodes) n
-  pub below : IfSome kinds (AreKindsAt (expansions nodes) n)
-  pub put : new ≡ old ++ tasks_at (expansions nodes) n kinds
+  pub shown : taken_apart table kinds ≡ shape_at table n
+  pub below : IfSome kinds (AreKindsAt table n)
+  pub put : new ≡ old ++ tasks_at table n kinds
 
 -- so where it has no place
-abbrev pub Opens : Option ℕ → List Node → ℕ → List Task → List Task → Type 0
-Opens (Some place) nodes n old new = new ≡ old
-Opens None nodes n old new = IsOpened nodes n old new
+abbrev pub Opens : Option ℕ → List Shape → ℕ → List Task → List Task → Type 0
+Opens (Some place) table n old new = new ≡ old
+Opens None table n old new = IsOpened table n old new
 
 -- A number that has no place gets the next one.
 abbrev pub Puts : Option ℕ → ℕ → Listing → Listing → Type 0

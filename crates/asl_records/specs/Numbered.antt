@@ -4,7 +4,7 @@ use Rattle.std.specs.List.{AllByRecursion}
 use Rattle.std.specs.declared.alloc.Global.{Global}
 use Rattle.asl_model.specs.Certificate as model
 use Rattle.asl_model.specs.Shape.{Shape}
-use Rattle.asl_numbered.specs.Expansion.{expansions, shape_at, AreBelow}
+use Rattle.asl_numbered.specs.Expansion.{shape_at, AreBelow}
 use Rattle.asl_records.specs.declared.records.NumberedCertificate.{NumberedCertificate}
 use Rattle.asl_records.specs.declared.records.StateNumbers.{StateNumbers}
 
@@ -25,8 +25,8 @@ numbered_entries table entries = map (λ entry. (string_bytes entry.0, numbers_v
 -- a certificate
 abbrev pub numbered_view : NumberedCertificate → model.Certificate
 numbered_view certificate = record {
-  output = shape_at (expansions certificate.shapes) certificate.output;
-  states = numbered_entries (expansions certificate.shapes) certificate.states.entries;
+  output = shape_at certificate.shapes certificate.output;
+  states = numbered_entries certificate.shapes certificate.states.entries;
 }
 
 -- the numbers of a state are below that bound

@@ -3,28 +3,27 @@ use Rattle.std.specs.Prelude.{◌≡◌, ◌<◌, ℕ, List, length, map, Option
 use Rattle.std.specs.declared.alloc.Global.{Global}
 use Rattle.asl_model.specs.Certificate as model
 use Rattle.asl_model.specs.Shape.{Shape}
-use Rattle.asl_numbered.specs.Expansion.{expansions, shape_at, AreBelow}
-use Rattle.asl_numbered.specs.declared.node.Node.{Node}
+use Rattle.asl_numbered.specs.Expansion.{shape_at, AreBelow}
 use Rattle.asl_records.specs.Numbered.{numbers_view, numbered_entries, AreNumbersBelow, AreEntriesBelow}
 use Rattle.asl_records.specs.declared.records.StateNumbers.{StateNumbers}
 
 -- the numbers stand in the table for those shapes, in order
-pub record AreListOf (nodes : List Node) (shapes : List Shape) (ns : List ℕ) : Type 0 where
-  pub below : AreBelow (length nodes) ns
-  pub same : map (shape_at (expansions nodes)) ns ≡ shapes
+pub record AreListOf (table : List Shape) (shapes : List Shape) (ns : List ℕ) : Type 0 where
+  pub below : AreBelow (length table) ns
+  pub same : map (shape_at table) ns ≡ shapes
 
 -- the number, if there is one, stands for that shape
-pub record IsItemOf (nodes : List Node) (shape : Option Shape) (item : Option ℕ) : Type 0 where
-  pub below : IfSome item (λ n. n < length nodes)
-  pub same : option_map (shape_at (expansions nodes)) item ≡ shape
+pub record IsItemOf (table : List Shape) (shape : Option Shape) (item : Option ℕ) : Type 0 where
+  pub below : IfSome item (λ n. n < length table)
+  pub same : option_map (shape_at table) item ≡ shape
 
 -- the numbers stand for what is certified of a state
-pub record AreStateOf (nodes : List Node) (shapes : model.StateShapes) (numbers : StateNumbers) : Type 0 where
-  pub below : AreNumbersBelow (length nodes) numbers
-  pub same : numbers_view (expansions nodes) numbers ≡ shapes
+pub record AreStateOf (table : List Shape) (shapes : model.StateShapes) (numbers : StateNumbers) : Type 0 where
+  pub below : AreNumbersBelow (length table) numbers
+  pub same : numbers_view table numbers ≡ shapes
 
 -- so for each state, in the order of their names
-pub record AreStatesOf (nodes : List Node) (states : List (List ℕ × model.StateShapes))
+pub record AreStatesOf (table : List Shape) (states : List (List ℕ × model.StateShapes))
     (entries : List (String Global × StateNumbers)) : Type 0 where
-  pub below : AreEntriesBelow (length nodes) entries
-  pub same : numbered_entries (expansions nodes) entries ≡ states
+  pub below : AreEntriesBelow (length table) entries
+  pub same : numbered_entries table entries ≡ states

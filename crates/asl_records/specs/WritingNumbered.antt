@@ -3,7 +3,7 @@ use Rattle.std.specs.Prelude.{◌<◌, ℕ, List}
 use Rattle.asl_model.specs.Shape.{Shape}
 use Rattle.asl_model.specs.Tree.{Tree}
 use Rattle.asl_model.specs.WrittenNumbered.{referring, written_over}
-use Rattle.asl_numbered.specs.Expansion.{expansions, shape_at, numbers_in, AreBelow}
+use Rattle.asl_numbered.specs.Expansion.{shape_at, numbers_in, AreBelow}
 use Rattle.asl_numbered.specs.declared.kinds.NodeArrays.{NodeArrays}
 use Rattle.asl_numbered.specs.declared.kinds.NodeObjects.{NodeObjects}
 use Rattle.asl_records.specs.Listing.{IsPlaced, listed_shapes}
@@ -11,7 +11,7 @@ use Rattle.asl_records.specs.declared.writing_numbered.ShapeWriter.{ShapeWriter}
 
 -- the shapes of the table
 abbrev pub table_of : ShapeWriter → List Shape
-table_of writer = expansions writer.shapes.now
+table_of writer = writer.shapes.now
 
 -- those that are listed
 abbrev pub listed_by : ShapeWriter → List Shape

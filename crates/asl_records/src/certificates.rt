@@ -3,7 +3,7 @@
 ghost use Rattle.std.specs.Prelude.{◌≡◌, [], pos, IfOk, IfErr, IfSome, OnOk, option_map, codes};
 ghost use Rattle.serde_json.specs.View.{view, members_view};
 ghost use Rattle.asl_model.specs.Records.{Reading, StandsForCertificate, certificate_complaints, certificate_from, object_complaints, entries_complaints, entries_from, state_rows, state_from};
-ghost use Rattle.asl_numbered.specs.Expansion.{expansions, Keeps};
+ghost use Rattle.asl_numbered.specs.Expansion.{Keeps};
 ghost use Rattle.asl_records.specs.Numbered.{AreWithin, numbered_view};
 ghost use Rattle.asl_records.specs.Listed.{AreInTable, ForReading};
 ghost use Rattle.asl_records.specs.Numbering.{AreStateOf, AreStatesOf};
@@ -154,7 +154,7 @@ fn read_states(
         (λ fault. ForReading reader.entry.several shapes.old reader.entry.listed
         (λ reading. TellsOneOf (states_complaints reading
         (value_in (codes "states") fields.old.entries)) fault)) }
-    ensures keeps { Keeps (expansions shapes.old) (expansions shapes.new) }
+    ensures keeps { Keeps shapes.old shapes.new }
 {
     match take(fields, "states") {
         Some(states) => read_entries(reader, shapes, entries(reader.alloc, "states", states)?),
@@ -180,7 +180,7 @@ fn read_entries(
         (λ fault. ForReading reader.entry.several shapes.old reader.entry.listed
         (λ reading. TellsOneOf (entries_complaints reading state_rows
         (members_view entries.entries)) fault)) }
-    ensures keeps { Keeps (expansions shapes.old) (expansions shapes.new) }
+    ensures keeps { Keeps shapes.old shapes.new }
 {
     let mut states = BTreeMap::new(reader.alloc);
     for (name, state) in entries {
@@ -208,7 +208,7 @@ fn read_state(
         (λ fault. ForReading reader.entry.several shapes.old reader.entry.listed
         (λ reading. TellsOneOf (object_complaints reading name.now state_rows
         (view value)) fault)) }
-    ensures keeps { Keeps (expansions shapes.old) (expansions shapes.new) }
+    ensures keeps { Keeps shapes.old shapes.new }
 {
     let state = Reader { name, ..reader };
     let mut fields = state.members(value)?;

@@ -5,7 +5,7 @@ ghost use Rattle.serde_json.specs.View.{view, items_view, members_view};
 ghost use Rattle.asl_model.specs.Json.{tree_of};
 ghost use Rattle.asl_model.specs.Records.{RecordComplaint, ShapesValue, misfits, shape_from, shapes_from};
 ghost use Rattle.asl_model.specs.Tree.{Tree};
-ghost use Rattle.asl_numbered.specs.Expansion.{expansions, shape_at, IsNumberOf, Keeps};
+ghost use Rattle.asl_numbered.specs.Expansion.{shape_at, IsNumberOf, Keeps};
 ghost use Rattle.asl_numbered.specs.References.{shapes_given, SpellsWith, TellsOf};
 ghost use Rattle.asl_records.specs.Listed.{AreInTable, ForReading};
 ghost use Rattle.asl_records.specs.Numbering.{AreListOf, IsItemOf};
@@ -32,13 +32,13 @@ impl Reader<'_> {
             (shape_row field.now true) (value_in field.now fields.old.entries) ≡ [])) }
         ensures number { IfOk result
             (λ number. ForReading self.now.several shapes.old self.now.listed
-            (λ reading. IsNumberOf (expansions shapes.new)
+            (λ reading. IsNumberOf shapes.new
             (shape_there reading.listed (value_in field.now fields.old.entries)) number)) }
         ensures refused { IfErr result
             (λ fault. ForReading self.now.several shapes.old self.now.listed
             (λ reading. TellsOneOf (field_complaints reading self.now.name.now
             (shape_row field.now true) (value_in field.now fields.old.entries)) fault)) }
-        ensures keeps { Keeps (expansions shapes.old) (expansions shapes.new) }
+        ensures keeps { Keeps shapes.old shapes.new }
     {
         match take(fields, field) {
             Some(value) => self.read_number(shapes, field, value),
@@ -68,7 +68,7 @@ impl Reader<'_> {
             (λ fault. ForReading self.now.several shapes.old self.now.listed
             (λ reading. TellsOneOf (field_complaints reading self.now.name.now
             (shape_row field.now false) (value_in field.now fields.old.entries)) fault)) }
-        ensures keeps { Keeps (expansions shapes.old) (expansions shapes.new) }
+        ensures keeps { Keeps shapes.old shapes.new }
     {
         match take(fields, field) {
             Some(value) => match self.read_number(shapes, field, value) {
@@ -100,7 +100,7 @@ impl Reader<'_> {
             (λ fault. ForReading self.now.several shapes.old self.now.listed
             (λ reading. TellsOneOf (field_complaints reading self.now.name.now
             (shapes_row field.now) (value_in field.now fields.old.entries)) fault)) }
-        ensures keeps { Keeps (expansions shapes.old) (expansions shapes.new) }
+        ensures keeps { Keeps shapes.old shapes.new }
     {
         match take(fields, field) {
             Some(value) => self.read_list(shapes, field, value),
@@ -128,7 +128,7 @@ impl Reader<'_> {
             (λ fault. ForReading self.now.several shapes.old self.now.listed
             (λ reading. TellsOneOf (map (complaint_of self.now.name.now field.now)
             (misfits reading ShapesValue (view value))) fault)) }
-        ensures keeps { Keeps (expansions shapes.old) (expansions shapes.new) }
+        ensures keeps { Keeps shapes.old shapes.new }
     {
         match value {
             Value::Array(elements) => self.read_numbers(shapes, field, elements),
@@ -157,7 +157,7 @@ impl Reader<'_> {
             (λ fault. ForReading self.now.several shapes.old self.now.listed
             (λ reading. TellsOneOf (shapes_complaints reading self.now.name.now field.now
             (items_view elements.items)) fault)) }
-        ensures keeps { Keeps (expansions shapes.old) (expansions shapes.new) }
+        ensures keeps { Keeps shapes.old shapes.new }
     {
         let mut numbers = Vec::with_capacity(self.alloc, elements.len())?;
         for element in elements {
@@ -179,13 +179,12 @@ impl Reader<'_> {
             (λ reading. shape_complaints reading self.now.name.now field.now (view value) ≡ [])) }
         ensures number { IfOk result
             (λ number. ForReading self.now.several shapes.old self.now.listed
-            (λ reading. IsNumberOf (expansions shapes.new)
-            (shape_from reading.listed (view value)) number)) }
+            (λ reading. IsNumberOf shapes.new (shape_from reading.listed (view value)) number)) }
         ensures refused { IfErr result
             (λ fault. ForReading self.now.several shapes.old self.now.listed
             (λ reading. TellsOneOf (shape_complaints reading self.now.name.now field.now
             (view value)) fault)) }
-        ensures keeps { Keeps (expansions shapes.old) (expansions shapes.new) }
+        ensures keeps { Keeps shapes.old shapes.new }
     {
         let answer = self.read_spelled(shapes, &value);
         drop(value);
@@ -198,16 +197,13 @@ impl Reader<'_> {
     /// The number of the shape that the value spells, with lists of types where these may stand.
     fn read_spelled(&self, shapes: &mut Shapes, value: &Value) -> Result<usize, NumberedRefusal>
         requires listed { AreInTable shapes.old self.now.listed }
-        ensures number { IfOk result
-            (λ n. IsNumberOf (expansions shapes.new) (shape_at (expansions shapes.new) n) n) }
+        ensures number { IfOk result (λ n. IsNumberOf shapes.new (shape_at shapes.new n) n) }
         ensures spelled { IfOk result (λ n. (t : Tree) → tree_of (view value.now) ≡ Some t
-            → SpellsWith self.now.several
-            (shapes_given (expansions shapes.old) self.now.listed) t
-            (shape_at (expansions shapes.new) n)) }
+            → SpellsWith self.now.several (shapes_given shapes.old self.now.listed) t
+            (shape_at shapes.new n)) }
         ensures refused { IfErr result (λ e. (t : Tree) → tree_of (view value.now) ≡ Some t
-            → TellsOf self.now.several
-            (shapes_given (expansions shapes.old) self.now.listed) t e) }
-        ensures keeps { Keeps (expansions shapes.old) (expansions shapes.new) }
+            → TellsOf self.now.several (shapes_given shapes.old self.now.listed) t e) }
+        ensures keeps { Keeps shapes.old shapes.new }
     {
         if self.several {
             shapes.read_value_with(value, self.listed)

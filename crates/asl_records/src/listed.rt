@@ -3,7 +3,7 @@
 ghost use Rattle.std.specs.Prelude.{◌≡◌, [], length, option_map, Some, IfOk, IfErr, IfSome, OnOk, codes};
 ghost use Rattle.serde_json.specs.View.{view, items_view, members_view};
 ghost use Rattle.asl_model.specs.Records.{listed_after};
-ghost use Rattle.asl_numbered.specs.Expansion.{expansions, AreBelow};
+ghost use Rattle.asl_numbered.specs.Expansion.{AreBelow};
 ghost use Rattle.asl_records.specs.Listed.{AreMeant, IsReading};
 ghost use Rattle.asl_records.specs.Parts.{AreWhole, ElementsAreWhole, IsWhole, Takes, TellsOneOf, field_complaints, listed_row, listing_complaints, reading_of, trees_there, unlisted, value_in};
 
@@ -74,7 +74,7 @@ fn read_elements(
     requires { ElementsAreWhole (items_view elements.items) }
     ensures right { OnOk result (listing_complaints several [] (items_view elements.items) ≡ []) }
     ensures below { IfOk result (λ numbers. AreBelow (length shapes.new) numbers.items) }
-    ensures meant { IfOk result (λ numbers. AreMeant several (expansions shapes.new) numbers.items
+    ensures meant { IfOk result (λ numbers. AreMeant several shapes.new numbers.items
         (listed_after [] (items_view elements.items))) }
     ensures refused { IfErr result
         (TellsOneOf (listing_complaints several [] (items_view elements.items))) }

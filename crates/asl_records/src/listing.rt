@@ -5,7 +5,7 @@
 
 ghost use Rattle.std.specs.Prelude.{◌≡◌, ◌<◌, ◌++◌, [], IfOk, IfSome, OnOk, None, Some, get_or, length, map, option_map};
 ghost use Rattle.asl_model.specs.WrittenNumbered.{is_listed, list_after, list_after_all, list_after_item, list_after_state, shapes_listed};
-ghost use Rattle.asl_numbered.specs.Expansion.{expansions, shape_at, numbers_in, AreBelow};
+ghost use Rattle.asl_numbered.specs.Expansion.{shape_at, numbers_in, AreBelow};
 ghost use Rattle.asl_numbered.specs.TakenApart.{kinds_over};
 ghost use Rattle.asl_records.specs.Listing.{IsListing, IsOpened, Opens, Puts, array_visits, listed_shapes, object_visits, task_if, visits};
 ghost use Rattle.asl_records.specs.declared.listing.Task.TheVariants.{List as Put};
@@ -75,7 +75,7 @@ impl Listing {
         ensures listing { OnOk result (IsListing shapes.now self.new) }
         ensures listed { OnOk result (listed_shapes shapes.now self.new
             ≡ list_after_state (listed_shapes shapes.now self.old)
-            (numbers_view (expansions shapes.now) state.now)) }
+            (numbers_view shapes.now state.now)) }
     {
         self.list_all(shapes, &state.branches)?;
         self.list(shapes, state.input)?;
@@ -90,7 +90,7 @@ impl Listing {
         ensures listing { OnOk result (IsListing shapes.now self.new) }
         ensures listed { OnOk result (listed_shapes shapes.now self.new
             ≡ list_after_all (listed_shapes shapes.now self.old)
-            (map (shape_at (expansions shapes.now)) numbers.now)) }
+            (map (shape_at shapes.now) numbers.now)) }
     {
         for number in numbers {
             self.list(shapes, *number)?;
@@ -105,7 +105,7 @@ impl Listing {
         ensures listing { OnOk result (IsListing shapes.now self.new) }
         ensures listed { OnOk result (listed_shapes shapes.now self.new
             ≡ list_after_item (listed_shapes shapes.now self.old)
-            (option_map (shape_at (expansions shapes.now)) item)) }
+            (option_map (shape_at shapes.now) item)) }
     {
         match item {
             Some(number) => self.list(shapes, number),
@@ -119,8 +119,7 @@ impl Listing {
         requires below { number < length shapes.now }
         ensures listing { OnOk result (IsListing shapes.now self.new) }
         ensures listed { OnOk result (listed_shapes shapes.now self.new
-            ≡ list_after (listed_shapes shapes.now self.old)
-            (shape_at (expansions shapes.now) number)) }
+            ≡ list_after (listed_shapes shapes.now self.old) (shape_at shapes.now number)) }
     {
         shapes.are_distinct();
         shapes.are_proper();
@@ -189,11 +188,10 @@ fn put_itself(
     number: usize,
     kinds: &NodeKinds<'_>,
 ) -> Result<(), OutOfMemory>
-    requires shown { kinds_over (expansions shapes.now) kinds.now
-        ≡ shape_at (expansions shapes.now) number }
+    requires shown { kinds_over shapes.now kinds.now ≡ shape_at shapes.now number }
     ensures put { IfOk result
         (λ _. tasks.new.items ≡ tasks.old.items
-        ++ task_if (is_listed (shape_at (expansions shapes.now) number)) (Put number)) }
+        ++ task_if (is_listed (shape_at shapes.now number)) (Put number)) }
 {
     if is_listed(shapes, number, kinds) {
         tasks.push(Task::List(number))?;
@@ -203,9 +201,8 @@ fn put_itself(
 
 /// Whether the shape of that number is listed: where it takes lists or objects, or is of several kinds.
 fn is_listed(shapes: &Shapes, number: usize, kinds: &NodeKinds<'_>) -> bool
-    requires shown { kinds_over (expansions shapes.now) kinds.now
-        ≡ shape_at (expansions shapes.now) number }
-    ensures { result ≡ is_listed (shape_at (expansions shapes.now) number) }
+    requires shown { kinds_over shapes.now kinds.now ≡ shape_at shapes.now number }
+    ensures { result ≡ is_listed (shape_at shapes.now number) }
 {
     kinds.arrays.is_some() || kinds.objects.is_some() || is_with_several(shapes, number)
 }

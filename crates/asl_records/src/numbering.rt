@@ -1,7 +1,7 @@
 // Certificates with shapes of their own, and with numbers of a table.
 
 ghost use Rattle.std.specs.Prelude.{◌≡◌, ◌<◌, All, IfOk, IfSome, length, map, option_map};
-ghost use Rattle.asl_numbered.specs.Expansion.{expansions, shape_at, AreBelow, Keeps};
+ghost use Rattle.asl_numbered.specs.Expansion.{shape_at, AreBelow, Keeps};
 ghost use Rattle.asl_shape.specs.View.{view};
 ghost use Rattle.asl_records.specs.Numbered.{AreWithin, AreNumbersBelow, AreEntriesBelow, numbered_view, numbers_view, numbered_entries};
 ghost use Rattle.asl_records.specs.Numbering.{IsItemOf, AreListOf, AreStateOf, AreStatesOf};
@@ -42,7 +42,7 @@ fn number_states(
 ) -> Result<BTreeMap<String, StateNumbers>, OutOfMemory>
     ensures numbered { IfOk result
         (λ numbered. AreStatesOf shapes.new (entries_view states.now.entries) numbered.entries) }
-    ensures keeps { Keeps (expansions shapes.old) (expansions shapes.new) }
+    ensures keeps { Keeps shapes.old shapes.new }
 {
     let mut numbered = BTreeMap::new(alloc);
     for (name, state) in states.iter() {
@@ -59,7 +59,7 @@ fn number_state(
     state: &StateShapes,
 ) -> Result<StateNumbers, OutOfMemory>
     ensures numbered { IfOk result (AreStateOf shapes.new (entry_view state.now)) }
-    ensures keeps { Keeps (expansions shapes.old) (expansions shapes.new) }
+    ensures keeps { Keeps shapes.old shapes.new }
 {
     Ok(StateNumbers {
         input: shapes.add(&state.input)?,
@@ -77,7 +77,7 @@ fn number_branches(
 ) -> Result<Vec<usize>, OutOfMemory>
     ensures numbered { IfOk result
         (λ numbers. AreListOf shapes.new (map view branches.now) numbers.items) }
-    ensures keeps { Keeps (expansions shapes.old) (expansions shapes.new) }
+    ensures keeps { Keeps shapes.old shapes.new }
 {
     let mut numbers = Vec::with_capacity(alloc, branches.len())?;
     for branch in branches {
@@ -89,7 +89,7 @@ fn number_branches(
 /// The shape of the processor's end by number, where there is one.
 fn number_item(shapes: &mut Shapes, item: &Option<Shape>) -> Result<Option<usize>, OutOfMemory>
     ensures numbered { IfOk result (IsItemOf shapes.new (option_map view item.now)) }
-    ensures keeps { Keeps (expansions shapes.old) (expansions shapes.new) }
+    ensures keeps { Keeps shapes.old shapes.new }
 {
     match item {
         Some(item) => Ok(Some(shapes.add(item)?)),
@@ -123,7 +123,7 @@ fn expand_states(
 ) -> Result<BTreeMap<String, StateShapes>, OutOfMemory>
     requires below { AreEntriesBelow (length shapes.now) states.now.entries }
     ensures same { IfOk result (λ expanded. entries_view expanded.entries
-        ≡ numbered_entries (expansions shapes.now) states.now.entries) }
+        ≡ numbered_entries shapes.now states.now.entries) }
     ensures proper { IfOk result (λ expanded. AreProperStates expanded.entries) }
 {
     let mut expanded = BTreeMap::new(alloc);
@@ -142,7 +142,7 @@ fn expand_state(
 ) -> Result<StateShapes, OutOfMemory>
     requires below { AreNumbersBelow (length shapes.now) state.now }
     ensures same { IfOk result
-        (λ expanded. entry_view expanded ≡ numbers_view (expansions shapes.now) state.now) }
+        (λ expanded. entry_view expanded ≡ numbers_view shapes.now state.now) }
     ensures proper { IfOk result IsProperState }
 {
     Ok(StateShapes {
@@ -161,8 +161,7 @@ fn expand_branches(
 ) -> Result<Vec<Shape>, OutOfMemory>
     requires below { AreBelow (length shapes.now) branches.now }
     ensures same { IfOk result
-        (λ expanded. map view expanded.items
-        ≡ map (shape_at (expansions shapes.now)) branches.now) }
+        (λ expanded. map view expanded.items ≡ map (shape_at shapes.now) branches.now) }
     ensures proper { IfOk result (λ expanded. All IsProper expanded.items) }
 {
     let mut expanded = Vec::with_capacity(alloc, branches.len())?;
@@ -176,8 +175,7 @@ fn expand_branches(
 fn expand_item(shapes: &Shapes, item: Option<usize>) -> Result<Option<Shape>, OutOfMemory>
     requires below { IfSome item (λ n. n < length shapes.now) }
     ensures same { IfOk result
-        (λ expanded. option_map view expanded
-        ≡ option_map (shape_at (expansions shapes.now)) item) }
+        (λ expanded. option_map view expanded ≡ option_map (shape_at shapes.now) item) }
     ensures proper { IfOk result (λ expanded. IfSome expanded IsProper) }
 {
     match item {
@@ -189,7 +187,7 @@ fn expand_item(shapes: &Shapes, item: Option<usize>) -> Result<Option<Shape>, Ou
 /// The shape of a number of the table.
 pub(crate) fn expand(shapes: &Shapes, number: usize) -> Result<Shape, OutOfMemory>
     requires below { number < length shapes.now }
-    ensures same { IfOk result (λ shape. view shape ≡ shape_at (expansions shapes.now) number) }
+    ensures same { IfOk result (λ shape. view shape ≡ shape_at shapes.now number) }
     ensures proper { IfOk result IsProper }
 {
     match shapes.expand(number)? {

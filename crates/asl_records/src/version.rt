@@ -5,7 +5,7 @@ ghost use Rattle.std.specs.List.{list_any};
 ghost use Rattle.std.specs.Option.{unwrap_or};
 ghost use Rattle.asl_model.specs.Shape.{has_several};
 ghost use Rattle.asl_model.specs.Written.{certificate_has_several, state_has_several, version_of};
-ghost use Rattle.asl_numbered.specs.Expansion.{expansions, shape_at};
+ghost use Rattle.asl_numbered.specs.Expansion.{shape_at};
 ghost use Rattle.asl_records.specs.Numbered.{numbered_entries, numbered_view, numbers_view};
 ghost use Rattle.asl_records.specs.View.{certificate_view};
 
@@ -64,7 +64,7 @@ fn version_number(several: bool) -> i64
 /// Whether one of the states has such a shape.
 fn states_are(shapes: &Shapes, states: &BTreeMap<String, StateNumbers>) -> bool
     ensures { result ≡ list_any (λ entry. state_has_several entry.1)
-        (numbered_entries (expansions shapes.now) states.now.entries) }
+        (numbered_entries shapes.now states.now.entries) }
 {
     for (_, state) in states.iter() {
         if state_is(shapes, state) {
@@ -76,7 +76,7 @@ fn states_are(shapes: &Shapes, states: &BTreeMap<String, StateNumbers>) -> bool
 
 /// Whether one of a state's shapes is such.
 fn state_is(shapes: &Shapes, state: &StateNumbers) -> bool
-    ensures { result ≡ state_has_several (numbers_view (expansions shapes.now) state.now) }
+    ensures { result ≡ state_has_several (numbers_view shapes.now state.now) }
 {
     is_with_several(shapes, state.input)
         || is_with_several(shapes, state.output)
@@ -86,8 +86,7 @@ fn state_is(shapes: &Shapes, state: &StateNumbers) -> bool
 
 /// Whether one of the shapes is such.
 fn some_are(shapes: &Shapes, numbers: &[usize]) -> bool
-    ensures { result
-        ≡ list_any has_several (map (shape_at (expansions shapes.now)) numbers.now) }
+    ensures { result ≡ list_any has_several (map (shape_at shapes.now) numbers.now) }
 {
     for number in numbers {
         if is_with_several(shapes, *number) {
@@ -100,7 +99,7 @@ fn some_are(shapes: &Shapes, numbers: &[usize]) -> bool
 /// Whether the one that is there is such.
 fn item_is(shapes: &Shapes, item: Option<usize>) -> bool
     ensures { result ≡ unwrap_or
-        (option_map has_several (option_map (shape_at (expansions shapes.now)) item)) false }
+        (option_map has_several (option_map (shape_at shapes.now) item)) false }
 {
     match item {
         Some(number) => is_with_several(shapes, number),
@@ -110,7 +109,7 @@ fn item_is(shapes: &Shapes, item: Option<usize>) -> bool
 
 /// Whether the shape of that number is of several kinds, or has one inside it that is.
 pub(crate) fn is_with_several(shapes: &Shapes, number: usize) -> bool
-    ensures { result ≡ has_several (shape_at (expansions shapes.now) number) }
+    ensures { result ≡ has_several (shape_at shapes.now number) }
 {
     shapes.has_several(number).unwrap_or(false)
 }

@@ -10,9 +10,8 @@ use Rattle.asl_model.proofs.ShapeJoin.{join_above}
 use Rattle.asl_model.proofs.ShapeTemplate.{literal-has_itself}
 use Rattle.asl_tree.specs.View.{view}
 use Rattle.asl_tree.specs.declared.Tree as code
-use Rattle.asl_numbered.specs.declared.node.Node.{Node}
-use Rattle.asl_numbered.specs.Expansion.{expansions, Keeps}
-use Rattle.asl_numbered.proofs.Expansions.{as_many, keeps_longer}
+use Rattle.asl_numbered.specs.Expansion.{Keeps}
+use Rattle.asl_numbered.specs.Laws.{keeps_longer}
 use Rattle.asl_samples.specs.Samples.{joined_with}
 
 -- the shape itself is inside
@@ -39,8 +38,8 @@ samples-have samples others first s all is =
     subst (λ r. All (Has r) (map view samples)) (sym is) (subst (λ ts. All (Has (joined_with (literal (view first)) (map view others))) ts) (sym whole) (common-has (view first) (map view others)))
 
 -- a number that was in the table still is
-pub still-within : (old new : List Node) (n : ℕ) → Keeps (expansions old) (expansions new) → n < length old → n < length new
-still-within old new n keeps within = omega (arith, within, as_many old, as_many new, keeps_longer (expansions old) (expansions new) keeps)
+pub still-within : (old new : List Shape) (n : ℕ) → Keeps old new → n < length old → n < length new
+still-within old new n keeps within = omega (arith, within, keeps_longer old new keeps)
 
 -- one sample more is joined
 pub joined-more : (whole s r : Shape) (now left : List code.Tree) (t : code.Tree) → whole ≡ joined_with s (map view now) → now ≡ t ∷ left → r ≡ join s (literal (view t)) → whole ≡ joined_with r (map view left)

@@ -4,8 +4,7 @@ ghost use Rattle.std.specs.List.{All};
 ghost use Rattle.asl_model.specs.Shape.{Has};
 ghost use Rattle.asl_model.specs.ShapeFlow.{literal};
 ghost use Rattle.asl_model.specs.ShapeOrder.{join};
-ghost use Rattle.asl_numbered.specs.Expansion.{expansions, shape_at};
-ghost use Rattle.asl_flow.specs.Numbers.{Shows};
+ghost use Rattle.asl_numbered.specs.Expansion.{shape_at, Shows};
 ghost use Rattle.asl_shape.specs.Properness.{is_proper};
 ghost use Rattle.asl_shape.specs.View.{view};
 ghost use Rattle.asl_tree.specs.View as trees;
@@ -62,7 +61,7 @@ fn joined_with(
 ) -> Result<usize, OutOfMemory>
     requires { number < length shapes.old }
     ensures { IfOk result (Shows shapes.new
-        (join (shape_at (expansions shapes.old) number) (literal (trees.view sample.now)))) }
+        (join (shape_at shapes.old number) (literal (trees.view sample.now)))) }
 {
     let own = literal_shape_at(alloc, shapes, sample)?;
     let joined = shapes.join(number, own)?;
@@ -72,7 +71,7 @@ fn joined_with(
 /// The shape of that number.
 fn expanded(shapes: &Shapes, number: usize) -> Result<Shape, OutOfMemory>
     requires { number < length shapes.now }
-    ensures shape { IfOk result (λ s. view s ≡ shape_at (expansions shapes.now) number) }
+    ensures shape { IfOk result (λ s. view s ≡ shape_at shapes.now number) }
     ensures proper { IfOk result (λ s. IsTrue (is_proper s)) }
 {
     let shape = shapes.expand(number)?;

@@ -6,9 +6,9 @@ use Rattle.asl_model.specs.Edges.{Walked}
 use Rattle.asl_model.specs.Missing.{counterexample}
 use Rattle.asl_model.specs.Shape.{Shape}
 use Rattle.asl_flow.specs.declared.doubts.DoubtfulPath.{DoubtfulPath}
-use Rattle.asl_numbered.specs.declared.node.Node.{Node}
-use Rattle.asl_numbered.specs.Expansion.{expansions, shape_at, Keeps}
-use Rattle.asl_numbered.proofs.Expansions.{as_many, keeps_longer, shape_at_stays}
+use Rattle.asl_numbered.specs.Expansion.{shape_at, Keeps}
+use Rattle.asl_numbered.proofs.Expansions.{shape_at_stays}
+use Rattle.asl_numbered.specs.Laws.{keeps_longer}
 use Rattle.asl_state_edges.specs.View.{example_of, step_view, steps_of, AreStepsBelow, IsStepBelow}
 use Rattle.asl_state_edges.specs.Walks.{Adds, AddsAnywhere, Pushes, Tells}
 use Rattle.asl_state_edges.specs.declared.found.Step.{Step}
@@ -104,14 +104,14 @@ adds_told table before after xs ys is p = adds_same table before after xs ys is 
 
 -- ---- steps that are added to none
 
-module _ (nodes : List Node) (before after : List Step) (all : List Walked) (none : before ≡ []) (a : Adds (expansions nodes) before after all) where
+module _ (table : List Shape) (before after : List Step) (all : List Walked) (none : before ≡ []) (a : Adds table before after all) where
   whole : after ≡ a.added
   whole = a.whole ∙ ap (λ steps. steps ++ a.added) none
 
   -- they are those
-  pub added_seen : steps_of (expansions nodes) after ≡ all
-  added_seen = ap (steps_of (expansions nodes)) whole ∙ sym a.seen
+  pub added_seen : steps_of table after ≡ all
+  added_seen = ap (steps_of table) whole ∙ sym a.seen
 
   -- below the table's length
-  pub added_below : AreStepsBelow (length nodes) after
-  added_below = subst (AreStepsBelow (length nodes)) (sym whole) (subst (λ bound. AreStepsBelow bound a.added) (as_many nodes) a.below)
+  pub added_below : AreStepsBelow (length table) after
+  added_below = subst (AreStepsBelow (length table)) (sym whole) (a.below)

@@ -9,17 +9,16 @@ use Rattle.asl_model.specs.Finding.{NoDefault, ResultMayNotFit, error_output_sha
 use Rattle.asl_model.specs.Path.{Segment}
 use Rattle.asl_model.specs.Shape.{Shape}
 use Rattle.asl_model.specs.ShapeFlow.{put, is_settled}
-use Rattle.asl_numbered.specs.declared.node.Node.{Node}
-use Rattle.asl_numbered.specs.Expansion.{expansions, shape_at, Keeps}
+use Rattle.asl_numbered.specs.Expansion.{shape_at, Keeps}
+use Rattle.asl_numbered.specs.Laws.{kept_shape}
 use Rattle.asl_state_edges.specs.Steps.{settings_of, kind_of, input_of, catcher_steps, chosen_steps, default_steps}
 use Rattle.asl_state_edges.specs.Walks.{caught_step}
 use Rattle.asl_state_edges.specs.declared.walking.Walk.{Walk}
-use Rattle.asl_state_edges.proofs.Kept.{shown}
 
 -- a rule that lets a shape through
-pub let_through : (a b : List Node) (walk : Walk) (rule : ChoiceRule) (n : ℕ) → Keeps (expansions a) (expansions b) → walk.entry.input < length a
-    → chosen_steps (expansions b) walk (codes "Choices") (target_name rule.next) n ≡ walk_rule (settings_of walk) (kind_of walk) (input_of (expansions a) walk) (target_name rule.next) (Ok (shape_at (expansions b) n))
-let_through a b walk rule n keeps input = ap (λ raw. walk_chosen (settings_of walk) (kind_of walk) raw (codes "Choices") (target_name rule.next) (shape_at (expansions b) n)) (shown a b walk.entry.input keeps input)
+pub let_through : (a b : List Shape) (walk : Walk) (rule : ChoiceRule) (n : ℕ) → Keeps a b → walk.entry.input < length a
+    → chosen_steps b walk (codes "Choices") (target_name rule.next) n ≡ walk_rule (settings_of walk) (kind_of walk) (input_of a walk) (target_name rule.next) (Ok (shape_at b n))
+let_through a b walk rule n keeps input = ap (λ raw. walk_chosen (settings_of walk) (kind_of walk) raw (codes "Choices") (target_name rule.next) (shape_at b n)) (kept_shape a b walk.entry.input keeps input)
 
 module _ (table : List Shape) (walk : Walk) (rules : List ChoiceRule) (default : Option Target) (n : ℕ) where
   -- `Default`

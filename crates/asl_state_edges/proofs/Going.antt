@@ -3,7 +3,7 @@ use Rattle.std.proofs.Common.{◌≡◌, List, [], ◌++◌, sym}
 use Rattle.asl_model.specs.Edges.{Walked}
 use Rattle.asl_model.specs.Shape.{Shape}
 use Rattle.asl_numbered.specs.Expansion.{Keeps}
-use Rattle.asl_numbered.proofs.Expansions.{keeps_same, keeps_trans}
+use Rattle.asl_numbered.specs.Laws.{keeps_same, keeps_trans}
 use Rattle.asl_state_edges.specs.Walks.{Adds}
 use Rattle.asl_state_edges.specs.declared.found.Step.{Step}
 use Rattle.asl_state_edges.proofs.Adding.{adds_none, adds_same, adds_then}

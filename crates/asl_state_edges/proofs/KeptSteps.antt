@@ -9,51 +9,51 @@ use Rattle.asl_model.specs.Edges.{walk_catchers, walk_caught, walk_default, walk
 use Rattle.asl_model.specs.Finding.{error_placed_shape}
 use Rattle.asl_model.specs.Shape.{Shape}
 use Rattle.asl_model.specs.ShapeFlow.{rule_shape}
-use Rattle.asl_numbered.specs.declared.node.Node.{Node}
-use Rattle.asl_numbered.specs.Expansion.{expansions, shape_at, IsNumberOf, Keeps}
+use Rattle.asl_numbered.specs.Expansion.{shape_at, IsNumberOf, Keeps}
+use Rattle.asl_numbered.specs.Laws.{kept_shape}
 use Rattle.asl_state_edges.specs.Entry.{entry_view, IsEntryBelow}
 use Rattle.asl_state_edges.specs.Steps.{settings_of, kind_of, input_of, result_steps, rules_steps, rule_steps, default_steps, catchers_steps, catcher_steps, settled_steps}
 use Rattle.asl_state_edges.specs.declared.walking.Walk.{Walk}
-use Rattle.asl_state_edges.proofs.Kept.{shown, entry_shown}
+use Rattle.asl_state_edges.proofs.Kept.{entry_shown}
 
-module _ (a b : List Node) (walk : Walk) (keeps : Keeps (expansions a) (expansions b)) where
+module _ (a b : List Shape) (walk : Walk) (keeps : Keeps a b) where
   -- on a number of it
   module _ (n : ℕ) (input : walk.entry.input < length a) (number : n < length a) where
-    pub result_kept : result_steps (expansions b) walk n ≡ result_steps (expansions a) walk n
+    pub result_kept : result_steps b walk n ≡ result_steps a walk n
     result_kept =
-        ap (λ s. walk_result (settings_of walk) (kind_of walk) s (shape_at (expansions b) n)) (shown a b walk.entry.input keeps input)
-        ∙ ap (walk_result (settings_of walk) (kind_of walk) (input_of (expansions a) walk)) (shown a b n keeps number)
+        ap (λ s. walk_result (settings_of walk) (kind_of walk) s (shape_at b n)) (kept_shape a b walk.entry.input keeps input)
+        ∙ ap (walk_result (settings_of walk) (kind_of walk) (input_of a walk)) (kept_shape a b n keeps number)
 
-    pub rule_kept : (rule : ChoiceRule) → rule_steps (expansions b) walk rule n ≡ rule_steps (expansions a) walk rule n
+    pub rule_kept : (rule : ChoiceRule) → rule_steps b walk rule n ≡ rule_steps a walk rule n
     rule_kept rule =
-        ap (λ s. walk_rule (settings_of walk) (kind_of walk) s (target_name rule.next) (rule_shape (test_view rule.test) (shape_at (expansions b) n))) (shown a b walk.entry.input keeps input)
-        ∙ ap (λ s. walk_rule (settings_of walk) (kind_of walk) (input_of (expansions a) walk) (target_name rule.next) (rule_shape (test_view rule.test) s)) (shown a b n keeps number)
+        ap (λ s. walk_rule (settings_of walk) (kind_of walk) s (target_name rule.next) (rule_shape (test_view rule.test) (shape_at b n))) (kept_shape a b walk.entry.input keeps input)
+        ∙ ap (λ s. walk_rule (settings_of walk) (kind_of walk) (input_of a walk) (target_name rule.next) (rule_shape (test_view rule.test) s)) (kept_shape a b n keeps number)
 
-    pub default_kept : (rules : List ChoiceRule) (default : Option Target) → default_steps (expansions b) walk rules default n ≡ default_steps (expansions a) walk rules default n
+    pub default_kept : (rules : List ChoiceRule) (default : Option Target) → default_steps b walk rules default n ≡ default_steps a walk rules default n
     default_kept rules default =
-        ap (λ s. walk_default (settings_of walk) (kind_of walk) s (map choice_rule_view rules) (option_map target_name default) (shape_at (expansions b) n)) (shown a b walk.entry.input keeps input)
-        ∙ ap (walk_default (settings_of walk) (kind_of walk) (input_of (expansions a) walk) (map choice_rule_view rules) (option_map target_name default)) (shown a b n keeps number)
+        ap (λ s. walk_default (settings_of walk) (kind_of walk) s (map choice_rule_view rules) (option_map target_name default) (shape_at b n)) (kept_shape a b walk.entry.input keeps input)
+        ∙ ap (walk_default (settings_of walk) (kind_of walk) (input_of a walk) (map choice_rule_view rules) (option_map target_name default)) (kept_shape a b n keeps number)
 
   -- on a result that is made
-  pub made_kept : (s : Shape) (n : ℕ) → walk.entry.input < length a → IsNumberOf (expansions b) s n → result_steps (expansions b) walk n ≡ walk_result (settings_of walk) (kind_of walk) (input_of (expansions a) walk) s
+  pub made_kept : (s : Shape) (n : ℕ) → walk.entry.input < length a → IsNumberOf b s n → result_steps b walk n ≡ walk_result (settings_of walk) (kind_of walk) (input_of a walk) s
   made_kept s n input number =
-      ap (λ raw. walk_result (settings_of walk) (kind_of walk) raw (shape_at (expansions b) n)) (shown a b walk.entry.input keeps input)
-      ∙ ap (walk_result (settings_of walk) (kind_of walk) (input_of (expansions a) walk)) number.same
+      ap (λ raw. walk_result (settings_of walk) (kind_of walk) raw (shape_at b n)) (kept_shape a b walk.entry.input keeps input)
+      ∙ ap (walk_result (settings_of walk) (kind_of walk) (input_of a walk)) number.same
 
   -- on the input alone
-  pub catcher_kept : (catcher : Catcher) → walk.entry.input < length a → catcher_steps (expansions b) walk catcher ≡ catcher_steps (expansions a) walk catcher
-  catcher_kept catcher input = ap (λ s. walk_caught (target_name catcher.next) (error_placed_shape catcher.result_path s)) (shown a b walk.entry.input keeps input)
+  pub catcher_kept : (catcher : Catcher) → walk.entry.input < length a → catcher_steps b walk catcher ≡ catcher_steps a walk catcher
+  catcher_kept catcher input = ap (λ s. walk_caught (target_name catcher.next) (error_placed_shape catcher.result_path s)) (kept_shape a b walk.entry.input keeps input)
 
-  pub catchers_kept : (catchers : List Catcher) → walk.entry.input < length a → catchers_steps (expansions b) walk catchers ≡ catchers_steps (expansions a) walk catchers
-  catchers_kept catchers input = ap (λ s. walk_catchers s (map catcher_view catchers)) (shown a b walk.entry.input keeps input)
+  pub catchers_kept : (catchers : List Catcher) → walk.entry.input < length a → catchers_steps b walk catchers ≡ catchers_steps a walk catchers
+  catchers_kept catchers input = ap (λ s. walk_catchers s (map catcher_view catchers)) (kept_shape a b walk.entry.input keeps input)
 
   -- on all of the state's shapes
-  pub settled_kept : (gives : ℕ) → IsEntryBelow (length a) walk.entry → gives < length a → settled_steps (expansions b) walk gives ≡ settled_steps (expansions a) walk gives
+  pub settled_kept : (gives : ℕ) → IsEntryBelow (length a) walk.entry → gives < length a → settled_steps b walk gives ≡ settled_steps a walk gives
   settled_kept gives entry below =
-      ap (λ e. walk_settled (shape_at (expansions b) gives) (settings_of walk) (kind_of walk) e) (entry_shown a b walk.entry keeps entry)
-      ∙ ap (λ s. walk_settled s (settings_of walk) (kind_of walk) (entry_view (expansions a) walk.entry)) (shown a b gives keeps below)
+      ap (λ e. walk_settled (shape_at b gives) (settings_of walk) (kind_of walk) e) (entry_shown a b walk.entry keeps entry)
+      ∙ ap (λ s. walk_settled s (settings_of walk) (kind_of walk) (entry_view a walk.entry)) (kept_shape a b gives keeps below)
 
-  pub work_kept : (s : Shape) → IsEntryBelow (length a) walk.entry → walk_work (settings_of walk) (kind_of walk) (entry_view (expansions b) walk.entry) s ≡ walk_work (settings_of walk) (kind_of walk) (entry_view (expansions a) walk.entry) s
+  pub work_kept : (s : Shape) → IsEntryBelow (length a) walk.entry → walk_work (settings_of walk) (kind_of walk) (entry_view b walk.entry) s ≡ walk_work (settings_of walk) (kind_of walk) (entry_view a walk.entry) s
   work_kept s entry = ap (λ e. walk_work (settings_of walk) (kind_of walk) e s) (entry_shown a b walk.entry keeps entry)
 
 -- ---- what is left

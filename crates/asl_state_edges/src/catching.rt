@@ -4,7 +4,7 @@ ghost use Rattle.std.specs.Prelude.{◌≡◌, ◌<◌, OnOk, length};
 ghost use Rattle.asl_state_edges.specs.Steps.{catcher_steps, catchers_steps};
 ghost use Rattle.asl_state_edges.specs.Walks.{Adds};
 ghost use Rattle.asl_model.specs.Finding.{error_output_shape};
-ghost use Rattle.asl_numbered.specs.Expansion.{expansions, shape_at, Keeps};
+ghost use Rattle.asl_numbered.specs.Expansion.{shape_at, Keeps};
 
 use crate::faults::FindingFault;
 use crate::found::Step;
@@ -25,9 +25,9 @@ impl<'m> Walk<'_, 'm> {
     ) -> Result<(), OutOfMemory>
         requires input { self.now.entry.input < length shapes.old }
         ensures adds { OnOk result
-            (Adds (expansions shapes.new) steps.old.items steps.new.items
-            (catchers_steps (expansions shapes.old) self.now catchers.now)) }
-        ensures keeps { Keeps (expansions shapes.old) (expansions shapes.new) }
+            (Adds shapes.new steps.old.items steps.new.items
+            (catchers_steps shapes.old self.now catchers.now)) }
+        ensures keeps { Keeps shapes.old shapes.new }
     {
         if catchers.is_empty() {
             return Ok(());
@@ -49,11 +49,11 @@ impl<'m> Walk<'_, 'm> {
     ) -> Result<(), OutOfMemory>
         requires input { self.now.entry.input < length shapes.old }
         requires error { error < length shapes.old }
-        requires error_output { shape_at (expansions shapes.old) error ≡ error_output_shape }
+        requires error_output { shape_at shapes.old error ≡ error_output_shape }
         ensures adds { OnOk result
-            (Adds (expansions shapes.new) steps.old.items steps.new.items
-            (catcher_steps (expansions shapes.old) self.now catcher.now)) }
-        ensures keeps { Keeps (expansions shapes.old) (expansions shapes.new) }
+            (Adds shapes.new steps.old.items steps.new.items
+            (catcher_steps shapes.old self.now catcher.now)) }
+        ensures keeps { Keeps shapes.old shapes.new }
     {
         match &catcher.result_path {
             None => push_caught(steps, &catcher.next.name, self.entry.input),

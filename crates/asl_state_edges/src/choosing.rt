@@ -3,7 +3,7 @@
 ghost use Rattle.std.specs.Prelude.{◌<◌, ◌++◌, OnOk, length};
 ghost use Rattle.asl_state_edges.specs.Steps.{default_steps, rule_steps, rules_steps};
 ghost use Rattle.asl_state_edges.specs.Walks.{Adds};
-ghost use Rattle.asl_numbered.specs.Expansion.{expansions, Keeps};
+ghost use Rattle.asl_numbered.specs.Expansion.{Keeps};
 
 use crate::faults::FindingFault;
 use crate::found::Step;
@@ -27,10 +27,10 @@ impl<'m> Walk<'_, 'm> {
         requires input { self.now.entry.input < length shapes.old }
         requires effective { effective < length shapes.old }
         ensures adds { OnOk result
-            (Adds (expansions shapes.new) steps.old.items steps.new.items
-            (rules_steps (expansions shapes.old) self.now rules.now effective
-            ++ default_steps (expansions shapes.old) self.now rules.now default.now effective)) }
-        ensures keeps { Keeps (expansions shapes.old) (expansions shapes.new) }
+            (Adds shapes.new steps.old.items steps.new.items
+            (rules_steps shapes.old self.now rules.now effective
+            ++ default_steps shapes.old self.now rules.now default.now effective)) }
+        ensures keeps { Keeps shapes.old shapes.new }
     {
         self.walk_rules(shapes, steps, rules, effective)?;
         self.walk_default(shapes, steps, rules, default, effective)
@@ -47,9 +47,9 @@ impl<'m> Walk<'_, 'm> {
         requires input { self.now.entry.input < length shapes.old }
         requires effective { effective < length shapes.old }
         ensures adds { OnOk result
-            (Adds (expansions shapes.new) steps.old.items steps.new.items
-            (rules_steps (expansions shapes.old) self.now rules.now effective)) }
-        ensures keeps { Keeps (expansions shapes.old) (expansions shapes.new) }
+            (Adds shapes.new steps.old.items steps.new.items
+            (rules_steps shapes.old self.now rules.now effective)) }
+        ensures keeps { Keeps shapes.old shapes.new }
     {
         for rule in rules {
             self.walk_rule(shapes, steps, rule, effective)?;
@@ -68,9 +68,9 @@ impl<'m> Walk<'_, 'm> {
         requires input { self.now.entry.input < length shapes.old }
         requires effective { effective < length shapes.old }
         ensures adds { OnOk result
-            (Adds (expansions shapes.new) steps.old.items steps.new.items
-            (rule_steps (expansions shapes.old) self.now rule.now effective)) }
-        ensures keeps { Keeps (expansions shapes.old) (expansions shapes.new) }
+            (Adds shapes.new steps.old.items steps.new.items
+            (rule_steps shapes.old self.now rule.now effective)) }
+        ensures keeps { Keeps shapes.old shapes.new }
     {
         match let_through_at(self.alloc, shapes, &rule.test, effective)? {
             Ok(shape) => self.walk_chosen(shapes, steps, "Choices", &rule.next.name, shape),
@@ -91,9 +91,9 @@ impl<'m> Walk<'_, 'm> {
         requires input { self.now.entry.input < length shapes.old }
         requires effective { effective < length shapes.old }
         ensures adds { OnOk result
-            (Adds (expansions shapes.new) steps.old.items steps.new.items
-            (default_steps (expansions shapes.old) self.now rules.now default.now effective)) }
-        ensures keeps { Keeps (expansions shapes.old) (expansions shapes.new) }
+            (Adds shapes.new steps.old.items steps.new.items
+            (default_steps shapes.old self.now rules.now default.now effective)) }
+        ensures keeps { Keeps shapes.old shapes.new }
     {
         match default {
             Some(next) => self.walk_chosen(shapes, steps, "Default", &next.name, effective),

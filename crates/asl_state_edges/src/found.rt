@@ -5,7 +5,7 @@ ghost use Rattle.asl_state_edges.specs.Entry.{entry_view, IsEntryBelow};
 ghost use Rattle.asl_state_edges.specs.View.{steps_of, AreStepsBelow};
 ghost use Rattle.asl_states.specs.Machine.{kind_view, settings_view};
 ghost use Rattle.asl_model.specs.Edges.{walk};
-ghost use Rattle.asl_numbered.specs.Expansion.{expansions, shape_at, Keeps};
+ghost use Rattle.asl_numbered.specs.Expansion.{shape_at, Keeps};
 
 use crate::faults::{Broken, FindingFault};
 use crate::walking::Walk;
@@ -74,11 +74,11 @@ pub fn edges_of<'m>(
     requires entry { IsEntryBelow (length shapes.old) entry }
     requires gives { gives < length shapes.old }
     ensures walked { IfOk result
-        (λ steps. steps_of (expansions shapes.new) steps.items
-        ≡ walk (shape_at (expansions shapes.old) gives) (settings_view state.now.settings)
-        (kind_view state.now.kind) (entry_view (expansions shapes.old) entry.entry)) }
+        (λ steps. steps_of shapes.new steps.items
+        ≡ walk (shape_at shapes.old gives) (settings_view state.now.settings)
+        (kind_view state.now.kind) (entry_view shapes.old entry.entry)) }
     ensures below { IfOk result (λ steps. AreStepsBelow (length shapes.new) steps.items) }
-    ensures keeps { Keeps (expansions shapes.old) (expansions shapes.new) }
+    ensures keeps { Keeps shapes.old shapes.new }
 {
     let walk = Walk {
         alloc,

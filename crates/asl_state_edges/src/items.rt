@@ -5,7 +5,7 @@ ghost use Rattle.asl_state_edges.specs.Entry.{IsEntryBelow};
 ghost use Rattle.asl_state_edges.specs.Items.{elements_steps, item_steps, items_steps, listed_steps, outputs_steps};
 ghost use Rattle.asl_state_edges.specs.Walks.{Adds};
 ghost use Rattle.asl_flow.specs.Elements.{elements_view, AreElementsBelow};
-ghost use Rattle.asl_numbered.specs.Expansion.{expansions, Keeps};
+ghost use Rattle.asl_numbered.specs.Expansion.{Keeps};
 
 use crate::faults::FindingFault;
 use crate::found::Step;
@@ -37,9 +37,9 @@ impl<'m> Walk<'_, 'm> {
         requires entry { IsEntryBelow (length shapes.old) self.now.entry }
         requires effective { children.effective < length shapes.old }
         ensures adds { OnOk result
-            (Adds (expansions shapes.new) steps.old.items steps.new.items
-            (items_steps (expansions shapes.old) self.now items_path.now children.entry)) }
-        ensures keeps { Keeps (expansions shapes.old) (expansions shapes.new) }
+            (Adds shapes.new steps.old.items steps.new.items
+            (items_steps shapes.old self.now items_path.now children.entry)) }
+        ensures keeps { Keeps shapes.old shapes.new }
     {
         match find_at(shapes, children.effective, items_path)? {
             Ok(items) => self.walk_items(shapes, steps, children, items),
@@ -59,9 +59,9 @@ impl<'m> Walk<'_, 'm> {
         requires effective { children.effective < length shapes.old }
         requires items { items < length shapes.old }
         ensures adds { OnOk result
-            (Adds (expansions shapes.new) steps.old.items steps.new.items
-            (listed_steps (expansions shapes.old) self.now children.entry items)) }
-        ensures keeps { Keeps (expansions shapes.old) (expansions shapes.new) }
+            (Adds shapes.new steps.old.items steps.new.items
+            (listed_steps shapes.old self.now children.entry items)) }
+        ensures keeps { Keeps shapes.old shapes.new }
     {
         match elements_of(self.alloc, shapes, items)? {
             Some(elements) => self.walk_elements(shapes, steps, children, &elements),
@@ -81,10 +81,10 @@ impl<'m> Walk<'_, 'm> {
         requires effective { children.effective < length shapes.old }
         requires elements { AreElementsBelow (length shapes.old) elements.now }
         ensures adds { OnOk result
-            (Adds (expansions shapes.new) steps.old.items steps.new.items
-            (elements_steps (expansions shapes.old) self.now children.entry
-            (elements_view (expansions shapes.old) elements.now))) }
-        ensures keeps { Keeps (expansions shapes.old) (expansions shapes.new) }
+            (Adds shapes.new steps.old.items steps.new.items
+            (elements_steps shapes.old self.now children.entry
+            (elements_view shapes.old elements.now))) }
+        ensures keeps { Keeps shapes.old shapes.new }
     {
         self.walk_item(shapes, steps, children, elements)?;
         self.walk_outputs(shapes, steps, elements)
@@ -101,10 +101,9 @@ impl<'m> Walk<'_, 'm> {
         requires effective { children.effective < length shapes.old }
         requires elements { AreElementsBelow (length shapes.old) elements.now }
         ensures adds { OnOk result
-            (Adds (expansions shapes.new) steps.old.items steps.new.items
-            (item_steps (expansions shapes.old) children.entry
-            (elements_view (expansions shapes.old) elements.now))) }
-        ensures keeps { Keeps (expansions shapes.old) (expansions shapes.new) }
+            (Adds shapes.new steps.old.items steps.new.items (item_steps shapes.old children.entry
+            (elements_view shapes.old elements.now))) }
+        ensures keeps { Keeps shapes.old shapes.new }
     {
         let element = element_at(shapes, elements)?;
         match item_input_at(
@@ -129,10 +128,9 @@ impl<'m> Walk<'_, 'm> {
         requires entry { IsEntryBelow (length shapes.old) self.now.entry }
         requires elements { AreElementsBelow (length shapes.old) elements.now }
         ensures adds { OnOk result
-            (Adds (expansions shapes.new) steps.old.items steps.new.items
-            (outputs_steps (expansions shapes.old) self.now
-            (elements_view (expansions shapes.old) elements.now))) }
-        ensures keeps { Keeps (expansions shapes.old) (expansions shapes.new) }
+            (Adds shapes.new steps.old.items steps.new.items (outputs_steps shapes.old self.now
+            (elements_view shapes.old elements.now))) }
+        ensures keeps { Keeps shapes.old shapes.new }
     {
         match self.entry.item {
             Some(item) => {

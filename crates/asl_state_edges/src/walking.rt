@@ -5,7 +5,7 @@ ghost use Rattle.asl_state_edges.specs.Entry.{IsEntryBelow};
 ghost use Rattle.asl_state_edges.specs.Steps as parts;
 ghost use Rattle.asl_state_edges.specs.Walks.{Adds};
 ghost use Rattle.asl_model.specs.Shape.{inhabited};
-ghost use Rattle.asl_numbered.specs.Expansion.{expansions, shape_at, Keeps};
+ghost use Rattle.asl_numbered.specs.Expansion.{shape_at, Keeps};
 
 use crate::found::{Entry, Step};
 use crate::pushing::{push_doubts, push_end, push_next, push_onward};
@@ -34,9 +34,9 @@ impl<'m> Walk<'_, 'm> {
         requires entry { IsEntryBelow (length shapes.old) self.now.entry }
         requires gives { gives < length shapes.old }
         ensures adds { OnOk result
-            (Adds (expansions shapes.new) steps.old.items steps.new.items
-            (parts.steps (expansions shapes.old) self.now gives)) }
-        ensures keeps { Keeps (expansions shapes.old) (expansions shapes.new) }
+            (Adds shapes.new steps.old.items steps.new.items
+            (parts.steps shapes.old self.now gives)) }
+        ensures keeps { Keeps shapes.old shapes.new }
     {
         if is_inhabited(shapes, self.entry.input) {
             self.walk_parts(shapes, steps, gives)
@@ -55,9 +55,9 @@ impl<'m> Walk<'_, 'm> {
         requires entry { IsEntryBelow (length shapes.old) self.now.entry }
         requires gives { gives < length shapes.old }
         ensures adds { OnOk result
-            (Adds (expansions shapes.new) steps.old.items steps.new.items
-            (parts.inner_steps (expansions shapes.old) self.now gives)) }
-        ensures keeps { Keeps (expansions shapes.old) (expansions shapes.new) }
+            (Adds shapes.new steps.old.items steps.new.items
+            (parts.inner_steps shapes.old self.now gives)) }
+        ensures keeps { Keeps shapes.old shapes.new }
     {
         self.walk_input(shapes, steps)?;
         self.walk_settled(shapes, steps, gives)?;
@@ -68,9 +68,9 @@ impl<'m> Walk<'_, 'm> {
     fn walk_input(&self, shapes: &mut Shapes, steps: &mut Vec<Step<'m>>) -> Result<(), OutOfMemory>
         requires entry { IsEntryBelow (length shapes.old) self.now.entry }
         ensures adds { OnOk result
-            (Adds (expansions shapes.new) steps.old.items steps.new.items
-            (parts.input_steps (expansions shapes.old) self.now)) }
-        ensures keeps { Keeps (expansions shapes.old) (expansions shapes.new) }
+            (Adds shapes.new steps.old.items steps.new.items
+            (parts.input_steps shapes.old self.now)) }
+        ensures keeps { Keeps shapes.old shapes.new }
     {
         match effective_at(self.alloc, shapes, &self.state.settings, self.entry.input)? {
             Ok(effective) => self.walk_work(shapes, steps, effective),
@@ -88,9 +88,9 @@ impl<'m> Walk<'_, 'm> {
         requires input { self.now.entry.input < length shapes.old }
         requires work { work < length shapes.old }
         ensures adds { OnOk result
-            (Adds (expansions shapes.new) steps.old.items steps.new.items
-            (parts.result_steps (expansions shapes.old) self.now work)) }
-        ensures keeps { Keeps (expansions shapes.old) (expansions shapes.new) }
+            (Adds shapes.new steps.old.items steps.new.items
+            (parts.result_steps shapes.old self.now work)) }
+        ensures keeps { Keeps shapes.old shapes.new }
     {
         match output_at(self.alloc, shapes, self.state, self.entry.input, work)? {
             Ok(output) => push_onward(steps, &self.state.settings.next, output),
@@ -110,9 +110,9 @@ impl<'m> Walk<'_, 'm> {
         requires input { self.now.entry.input < length shapes.old }
         requires work { work < length shapes.old }
         ensures adds { OnOk result
-            (Adds (expansions shapes.new) steps.old.items steps.new.items
-            (parts.chosen_steps (expansions shapes.old) self.now field.now next.now work)) }
-        ensures keeps { Keeps (expansions shapes.old) (expansions shapes.new) }
+            (Adds shapes.new steps.old.items steps.new.items
+            (parts.chosen_steps shapes.old self.now field.now next.now work)) }
+        ensures keeps { Keeps shapes.old shapes.new }
     {
         match output_at(self.alloc, shapes, self.state, self.entry.input, work)? {
             Ok(output) => push_next(steps, field, next, output),
@@ -130,9 +130,9 @@ impl<'m> Walk<'_, 'm> {
         requires input { self.now.entry.input < length shapes.old }
         requires work { work < length shapes.old }
         ensures adds { OnOk result
-            (Adds (expansions shapes.new) steps.old.items steps.new.items
-            (parts.end_steps (expansions shapes.old) self.now work)) }
-        ensures keeps { Keeps (expansions shapes.old) (expansions shapes.new) }
+            (Adds shapes.new steps.old.items steps.new.items
+            (parts.end_steps shapes.old self.now work)) }
+        ensures keeps { Keeps shapes.old shapes.new }
     {
         match output_at(self.alloc, shapes, self.state, self.entry.input, work)? {
             Ok(output) => push_end(steps, "Type", output),
@@ -144,7 +144,7 @@ impl<'m> Walk<'_, 'm> {
 /// Whether some tree has the shape of that number.
 fn is_inhabited(shapes: &Shapes, number: usize) -> bool
     requires { number < length shapes.now }
-    ensures { result ≡ inhabited (shape_at (expansions shapes.now) number) }
+    ensures { result ≡ inhabited (shape_at shapes.now number) }
 {
     shapes.inhabited(number).unwrap()
 }

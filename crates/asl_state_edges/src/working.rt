@@ -6,7 +6,7 @@ ghost use Rattle.asl_state_edges.specs.Steps.{result_steps, settled_steps, work_
 ghost use Rattle.asl_state_edges.specs.Walks.{Adds};
 ghost use Rattle.asl_states.specs.Machine.{delay_view};
 ghost use Rattle.asl_model.specs.Edges as model;
-ghost use Rattle.asl_numbered.specs.Expansion.{expansions, shape_at, Keeps};
+ghost use Rattle.asl_numbered.specs.Expansion.{shape_at, Keeps};
 
 use crate::faults::FindingFault;
 use crate::found::Step;
@@ -29,9 +29,9 @@ impl<'m> Walk<'_, 'm> {
         requires entry { IsEntryBelow (length shapes.old) self.now.entry }
         requires effective { effective < length shapes.old }
         ensures adds { OnOk result
-            (Adds (expansions shapes.new) steps.old.items steps.new.items
-            (work_steps (expansions shapes.old) self.now effective)) }
-        ensures keeps { Keeps (expansions shapes.old) (expansions shapes.new) }
+            (Adds shapes.new steps.old.items steps.new.items
+            (work_steps shapes.old self.now effective)) }
+        ensures keeps { Keeps shapes.old shapes.new }
     {
         match &self.state.kind {
             Kind::Pass { result: None } => self.walk_result(shapes, steps, effective),
@@ -69,9 +69,9 @@ impl<'m> Walk<'_, 'm> {
         requires entry { IsEntryBelow (length shapes.old) self.now.entry }
         requires gives { gives < length shapes.old }
         ensures adds { OnOk result
-            (Adds (expansions shapes.new) steps.old.items steps.new.items
-            (settled_steps (expansions shapes.old) self.now gives)) }
-        ensures keeps { Keeps (expansions shapes.old) (expansions shapes.new) }
+            (Adds shapes.new steps.old.items steps.new.items
+            (settled_steps shapes.old self.now gives)) }
+        ensures keeps { Keeps shapes.old shapes.new }
     {
         match &self.state.kind {
             Kind::Pass { result: Some(tree) } => {
@@ -103,10 +103,10 @@ impl<'m> Walk<'_, 'm> {
         requires input { self.now.entry.input < length shapes.old }
         requires effective { effective < length shapes.old }
         ensures adds { OnOk result
-            (Adds (expansions shapes.new) steps.old.items steps.new.items
-            (model.walk_delay (delay_view delay.now) (shape_at (expansions shapes.old) effective)
-            ++ result_steps (expansions shapes.old) self.now effective)) }
-        ensures keeps { Keeps (expansions shapes.old) (expansions shapes.new) }
+            (Adds shapes.new steps.old.items steps.new.items
+            (model.walk_delay (delay_view delay.now) (shape_at shapes.old effective)
+            ++ result_steps shapes.old self.now effective)) }
+        ensures keeps { Keeps shapes.old shapes.new }
     {
         walk_delay(shapes, steps, delay, effective)?;
         self.walk_result(shapes, steps, effective)
@@ -122,9 +122,9 @@ fn walk_delay<'m>(
 ) -> Result<(), OutOfMemory>
     requires effective { effective < length shapes.old }
     ensures adds { OnOk result
-        (Adds (expansions shapes.new) steps.old.items steps.new.items
-        (model.walk_delay (delay_view delay.now) (shape_at (expansions shapes.old) effective))) }
-    ensures keeps { Keeps (expansions shapes.old) (expansions shapes.new) }
+        (Adds shapes.new steps.old.items steps.new.items
+        (model.walk_delay (delay_view delay.now) (shape_at shapes.old effective))) }
+    ensures keeps { Keeps shapes.old shapes.new }
 {
     match delay {
         Delay::SecondsPath(path) => match find_at(shapes, effective, path)? {

@@ -87,7 +87,7 @@ fn judge(
 }
 
 /// Whether each rule is true or false for each tree of the shape.
-#[tactic(auto, using(crate::proofs::Lengths::longer))]
+#[tactic(auto, using(asl_numbered::specs::Laws::keeps_longer))]
 fn are_decided(
     alloc: Global,
     shapes: &mut Shapes,

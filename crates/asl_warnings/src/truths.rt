@@ -41,7 +41,7 @@ pub(crate) fn settled_truth(
 }
 
 /// Whether the shape lets no tree through for which the test is true.
-#[tactic(auto, using(crate::proofs::Lengths::longer))]
+#[tactic(auto, using(asl_numbered::specs::Laws::keeps_longer))]
 fn is_never_true(
     alloc: Global,
     shapes: &mut Shapes,
@@ -81,7 +81,7 @@ fn settled_of_all(
 }
 
 /// So for whether a path names something, where that is wanted or not: it is settled where the path always does.
-#[tactic(auto, using(crate::proofs::Lengths::longer))]
+#[tactic(auto, using(asl_numbered::specs::Laws::keeps_longer))]
 fn settled_presence(
     shapes: &mut Shapes,
     path: &RefPath,
@@ -98,7 +98,7 @@ fn settled_presence(
 }
 
 /// So for whether what the path names is of a kind.
-#[tactic(auto, using(crate::proofs::Lengths::longer))]
+#[tactic(auto, using(asl_numbered::specs::Laws::keeps_longer))]
 fn settled_kind(
     shapes: &mut Shapes,
     path: &RefPath,

@@ -5,7 +5,7 @@ use Rattle.std.proofs.lemmas.List.{append-nil, map-append}
 use Rattle.std.proofs.lemmas.List.Elements.{All-append, All-cons, All-nil, All-tail, All-head, All-weaker}
 use Rattle.asl_model.specs.Shape.{Shape}
 use Rattle.asl_numbered.specs.Expansion.{Keeps}
-use Rattle.asl_numbered.proofs.Expansions.{keeps_longer, kept_shape}
+use Rattle.asl_numbered.specs.Laws.{keeps_longer, kept_shape}
 use Rattle.asl_ways.specs.Adding.{Adds, AreBelow}
 use Rattle.asl_ways.specs.Coming.{Coming, coming}
 use Rattle.asl_ways.specs.declared.arriving.Arrival.{Arrival}

@@ -4,7 +4,7 @@ use Rattle.std.specs.Prelude.{IfSome}
 use Rattle.std.proofs.lemmas.List.{append-nil, drop_all}
 use Rattle.asl_model.specs.Numbering.{Table}
 use Rattle.asl_model.specs.Shape.{Shape}
-use Rattle.asl_numbered.proofs.Expansions.{keeps_same}
+use Rattle.asl_numbered.specs.Laws.{keeps_same}
 use Rattle.asl_state_edges.specs.View.{step_view, steps_of, AreStepsBelow, IsStepBelow}
 use Rattle.asl_state_edges.specs.declared.found.Step.{Step}
 use Rattle.asl_ways.specs.Adding.{Adds}

@@ -23,13 +23,13 @@ module _ (table : List Shape) (inner outer : ℕ) (proper : IsProperShape (shape
   within n false front differs = let past = ltb-false n (length table) front in absurd (differs (get_or_past table n Never (omega (arith, past))))
 
   -- it isn't inside another, unless the answer is that it is
-  pub not_inside : (bound : ℕ) (answer : Option Bool) → length table ≡ bound → (IsSome answer ↔ (inner < bound) × (outer < bound)) → IfSome answer (λ b. IsTrue b ↔ Inside (shape_at table inner) (shape_at table outer)) → ¬ (answer ≡ Some true) → ¬ Inside (shape_at table inner) (shape_at table outer)
-  not_inside bound (Some true) many there exactly differs inside = differs refl
-  not_inside bound (Some false) many there exactly differs inside = false≢true (exactly.1 inside)
-  not_inside bound None many there exactly differs inside =
+  pub not_inside : (answer : Option Bool) → (IsSome answer ↔ (inner < length table) × (outer < length table)) → IfSome answer (λ b. IsTrue b ↔ Inside (shape_at table inner) (shape_at table outer)) → ¬ (answer ≡ Some true) → ¬ Inside (shape_at table inner) (shape_at table outer)
+  not_inside (Some true) there exactly differs inside = differs refl
+  not_inside (Some false) there exactly differs inside = false≢true (exactly.1 inside)
+  not_inside None there exactly differs inside =
       let inner_within = within inner (nat_lt inner (length table)) refl (λ never. false≢true (ap inhabited (sym never) ∙ some)) in
       let outer_within = within outer (nat_lt outer (length table)) refl (λ never. not_never (shape_at table inner) proper some (subst (Inside (shape_at table inner)) never inside)) in
-      false≢true (there.1 (subst (λ n. inner < n) many inner_within, subst (λ n. outer < n) many outer_within))
+      false≢true (there.1 (inner_within, outer_within))
 
 -- ---- one after another
 

@@ -8,7 +8,7 @@ use Rattle.std.proofs.lemmas.Option.{slice_get-get_or, slice_get_cases, slice_ge
 use Rattle.asl_model.proofs.RunOptions.{none_some, some_inj}
 use Rattle.asl_model.specs.Shape.{Shape, Inside}
 use Rattle.asl_numbered.specs.Expansion.{shape_at, Keeps}
-use Rattle.asl_numbered.proofs.Expansions.{keeps_longer, kept_shape}
+use Rattle.asl_numbered.specs.Laws.{keeps_longer, kept_shape}
 use Rattle.asl_ways.specs.Coming.{Coming, coming, leaves, starts}
 use Rattle.asl_ways.specs.Given.{Given}
 use Rattle.asl_ways.specs.Seeking.{IsOf, Visits}

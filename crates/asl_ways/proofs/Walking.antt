@@ -7,20 +7,20 @@ use Rattle.asl_model.specs.Shape.{Shape}
 use Rattle.asl_shape.proofs.Views.{view_any}
 use Rattle.asl_shape.specs.View.{view}
 use Rattle.asl_shape.specs.declared.shape.Shape as shape
-use Rattle.asl_numbered.specs.Expansion.{expansions, shape_at, AreBelow, IsNumberOf, Keeps}
-use Rattle.asl_numbered.specs.declared.node.Node.{Node}
+use Rattle.asl_numbered.specs.Expansion.{shape_at, AreBelow, IsNumberOf, Keeps}
+use Rattle.asl_numbered.specs.Laws.{kept_shape, kept_within}
 use Rattle.asl_records.specs.Numbered.{numbers_view, AreNumbersBelow}
 use Rattle.asl_records.specs.declared.records.StateNumbers.{StateNumbers}
-use Rattle.asl_records.proofs.Kept.{numbers_shown, numbers_within, shown, within}
+use Rattle.asl_records.proofs.Kept.{numbers_shown, numbers_within}
 use Rattle.asl_state_edges.specs.Entry.{entry_view, IsEntryBelow}
 use Rattle.asl_state_edges.specs.declared.found.Entry.{Entry}
 
 -- ---- what its task gives
 
-pub task_gives : (a : List Node) (declared : Declared) (n : List ℕ) (task : TaskShapes) (gives : ℕ) → Some task ≡ under n declared.tasks → IsNumberOf (expansions a) task.gives gives → shape_at (expansions a) gives ≡ gives_of declared n
+pub task_gives : (a : List Shape) (declared : Declared) (n : List ℕ) (task : TaskShapes) (gives : ℕ) → Some task ≡ under n declared.tasks → IsNumberOf a task.gives gives → shape_at a gives ≡ gives_of declared n
 task_gives a declared n task gives known is = is.same ∙ ap gives_among known
 
-pub any_gives : (a : List Node) (declared : Declared) (n : List ℕ) (any : ℕ) → None ≡ under n declared.tasks → IsNumberOf (expansions a) (view shape.Any) any → shape_at (expansions a) any ≡ gives_of declared n
+pub any_gives : (a : List Shape) (declared : Declared) (n : List ℕ) (any : ℕ) → None ≡ under n declared.tasks → IsNumberOf a (view shape.Any) any → shape_at a any ≡ gives_of declared n
 any_gives a declared n any missing is = is.same ∙ view_any ∙ ap gives_among missing
 
 -- ---- its entry, with an input of its own
@@ -32,15 +32,15 @@ module _ (entry : StateNumbers) (input : ℕ) (branches : Bor (List ℕ)) (are :
   own : (table : List Shape) → entry_view table entered ≡ record (numbers_view table entry) { input = shape_at table input }
   own table = ap (λ ns. record { input = shape_at table input; output = shape_at table entry.output; branches = map (shape_at table) ns; item = option_map (shape_at table) entry.item }) are
 
-  module _ (a b : List Node) (keeps : Keeps (expansions a) (expansions b)) (below : AreNumbersBelow (length a) entry) (input_below : input < length a) where
+  module _ (a b : List Shape) (keeps : Keeps a b) (below : AreNumbersBelow (length a) entry) (input_below : input < length a) where
     pub entered_below : IsEntryBelow (length b) entered
     entered_below =
         let now = numbers_within a b keeps entry below in
-        record { input = within a b keeps input input_below; output = now.output; branches = subst (AreBelow (length b)) (sym are) now.branches; item = now.item }
+        record { input = kept_within a b input keeps input_below; output = now.output; branches = subst (AreBelow (length b)) (sym are) now.branches; item = now.item }
 
     -- it is walked with the shape that the input has had
-    pub entered_view : entry_view (expansions b) entered ≡ record (numbers_view (expansions a) entry) { input = shape_at (expansions a) input }
-    entered_view = own (expansions b) ∙ (ap (λ (own : StateShapes). record own { input = shape_at (expansions b) input }) (numbers_shown a b keeps entry below) ∙ ap (λ (s : Shape). record (numbers_view (expansions a) entry) { input = s }) (shown a b keeps input input_below))
+    pub entered_view : entry_view b entered ≡ record (numbers_view a entry) { input = shape_at a input }
+    entered_view = own b ∙ (ap (λ (own : StateShapes). record own { input = shape_at b input }) (numbers_shown a b keeps entry below) ∙ ap (λ (s : Shape). record (numbers_view a entry) { input = s }) (kept_shape a b input keeps input_below))
 
-    pub entered_walk : (gives given : Shape) (settings : Settings) (kind : Kind) (steps : List Walked) → gives ≡ given → steps ≡ walk gives settings kind (entry_view (expansions b) entered) → steps ≡ walk given settings kind (record (numbers_view (expansions a) entry) { input = shape_at (expansions a) input })
-    entered_walk gives given settings kind steps same is = is ∙ ap (λ (e : StateShapes). walk gives settings kind e) entered_view ∙ ap (λ s. walk s settings kind (record (numbers_view (expansions a) entry) { input = shape_at (expansions a) input })) same
+    pub entered_walk : (gives given : Shape) (settings : Settings) (kind : Kind) (steps : List Walked) → gives ≡ given → steps ≡ walk gives settings kind (entry_view b entered) → steps ≡ walk given settings kind (record (numbers_view a entry) { input = shape_at a input })
+    entered_walk gives given settings kind steps same is = is ∙ ap (λ (e : StateShapes). walk gives settings kind e) entered_view ∙ ap (λ s. walk s settings kind (record (numbers_view a entry) { input = shape_at a input })) same

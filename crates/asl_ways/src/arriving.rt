@@ -1,7 +1,7 @@
 //! What comes to the states of a machine under a certificate.
 
 ghost use Rattle.std.specs.Prelude.{◌≡◌, ◌<◌, length, map, IfOk, IfSome, OnOk, option_map, option_to_list};
-ghost use Rattle.asl_numbered.specs.Expansion.{expansions, Keeps};
+ghost use Rattle.asl_numbered.specs.Expansion.{Keeps};
 ghost use Rattle.asl_records.specs.Numbered.{numbered_view, AreEntriesBelow, AreWithin};
 ghost use Rattle.asl_ways.specs.Adding.{Adds, AreBelow};
 ghost use Rattle.asl_ways.specs.Coming.{all_coming, coming, leaves_certified, starts};
@@ -49,12 +49,12 @@ pub fn arrivals(
 ) -> Result<Vec<Arrival>, OutOfMemory>
     requires within { AreWithin certificate.old }
     ensures all { IfOk result
-        (λ all. map (coming (expansions certificate.new.shapes)) all.items
+        (λ all. map (coming certificate.new.shapes) all.items
         ≡ all_coming (given_of machine.now declared.now certificate.old)) }
     ensures below { IfOk result (λ all. AreBelow (length certificate.new.shapes) all.items) }
     ensures same { numbered_view certificate.new ≡ numbered_view certificate.old }
     ensures within { AreWithin certificate.new }
-    ensures keeps { Keeps (expansions certificate.old.shapes) (expansions certificate.new.shapes) }
+    ensures keeps { Keeps certificate.old.shapes certificate.new.shapes }
     ensures output { certificate.new.output ≡ certificate.old.output }
     ensures states { certificate.new.states ≡ certificate.old.states }
 {
@@ -72,10 +72,9 @@ impl Walker<'_> {
     fn arrivals(&self, shapes: &mut Shapes) -> Result<Vec<Arrival>, OutOfMemory>
         requires states { AreEntriesBelow (length shapes.old) self.now.states.now.entries }
         ensures all { IfOk result
-            (λ all. map (coming (expansions shapes.new)) all.items
-            ≡ all_coming (given_in (expansions shapes.old) self.now)) }
+            (λ all. map (coming shapes.new) all.items ≡ all_coming (given_in shapes.old self.now)) }
         ensures below { IfOk result (λ all. AreBelow (length shapes.new) all.items) }
-        ensures keeps { Keeps (expansions shapes.old) (expansions shapes.new) }
+        ensures keeps { Keeps shapes.old shapes.new }
     {
         let mut arrivals = Vec::new(self.alloc);
         self.push_start(shapes, &mut arrivals)?;
@@ -93,9 +92,9 @@ impl Walker<'_> {
         arrivals: &mut Vec<Arrival>,
     ) -> Result<(), OutOfMemory>
         ensures adds { OnOk result
-            (Adds (expansions shapes.new) arrivals.old.items arrivals.new.items
-            (starts (given_in (expansions shapes.old) self.now))) }
-        ensures keeps { Keeps (expansions shapes.old) (expansions shapes.new) }
+            (Adds shapes.new arrivals.old.items arrivals.new.items
+            (starts (given_in shapes.old self.now))) }
+        ensures keeps { Keeps shapes.old shapes.new }
     {
         let start = self.start(shapes)?;
         push_if_any(arrivals, start)
@@ -104,11 +103,11 @@ impl Walker<'_> {
     /// The machine's input, which comes to its start state; none where it has no states.
     pub(crate) fn start(&self, shapes: &mut Shapes) -> Result<Option<Arrival>, OutOfMemory>
         ensures start { IfOk result
-            (λ start. option_to_list (option_map (coming (expansions shapes.new)) start)
-            ≡ starts (given_in (expansions shapes.old) self.now)) }
+            (λ start. option_to_list (option_map (coming shapes.new) start)
+            ≡ starts (given_in shapes.old self.now)) }
         ensures below { IfOk result
             (λ start. IfSome start (λ arrival. arrival.shape < length shapes.new)) }
-        ensures keeps { Keeps (expansions shapes.old) (expansions shapes.new) }
+        ensures keeps { Keeps shapes.old shapes.new }
     {
         let shape = shapes.add(&self.declared.input)?;
         match self.machine.scope_of(0) {
@@ -130,9 +129,9 @@ impl Walker<'_> {
     ) -> Result<(), OutOfMemory>
         requires states { AreEntriesBelow (length shapes.old) self.now.states.now.entries }
         ensures adds { OnOk result
-            (Adds (expansions shapes.new) arrivals.old.items arrivals.new.items
-            (leaves_certified (given_in (expansions shapes.old) self.now) number)) }
-        ensures keeps { Keeps (expansions shapes.old) (expansions shapes.new) }
+            (Adds shapes.new arrivals.old.items arrivals.new.items
+            (leaves_certified (given_in shapes.old self.now) number)) }
+        ensures keeps { Keeps shapes.old shapes.new }
     {
         match self.row(number) {
             Some(row) => self.push_row(shapes, arrivals, number, &row, row.entry.input),

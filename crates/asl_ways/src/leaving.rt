@@ -3,7 +3,7 @@
 ghost use Rattle.std.specs.Prelude.{◌≡◌, ◌<◌, ◌++◌, ℕ, List, length, IfOk, IfSome, OnOk, option_map, option_to_list};
 ghost use Rattle.asl_model.specs.Certificate.{gives_of, under};
 ghost use Rattle.asl_model.specs.Shape as model;
-ghost use Rattle.asl_numbered.specs.Expansion.{expansions, shape_at, Keeps};
+ghost use Rattle.asl_numbered.specs.Expansion.{shape_at, Keeps};
 ghost use Rattle.asl_states.specs.Table.{table_view};
 ghost use Rattle.asl_records.specs.Numbered.{numbers_view, AreEntriesBelow, AreNumbersBelow};
 ghost use Rattle.asl_records.specs.View.{declared_view};
@@ -78,10 +78,9 @@ impl<'w> Walker<'w> {
         requires states { AreEntriesBelow (length shapes.old) self.now.states.now.entries }
         requires input { input < length shapes.old }
         ensures adds { OnOk result
-            (Adds (expansions shapes.new) arrivals.old.items arrivals.new.items
-            (leaves (given_in (expansions shapes.old) self.now) number
-            (shape_at (expansions shapes.old) input))) }
-        ensures keeps { Keeps (expansions shapes.old) (expansions shapes.new) }
+            (Adds shapes.new arrivals.old.items arrivals.new.items
+            (leaves (given_in shapes.old self.now) number (shape_at shapes.old input))) }
+        ensures keeps { Keeps shapes.old shapes.new }
     {
         match self.row(number) {
             Some(row) => self.push_row(shapes, arrivals, number, &row, input),
@@ -101,10 +100,10 @@ impl<'w> Walker<'w> {
         requires entry { AreNumbersBelow (length shapes.old) row.now.entry.now }
         requires input { input < length shapes.old }
         ensures adds { OnOk result
-            (Adds (expansions shapes.new) arrivals.old.items arrivals.new.items
-            (leaves_row (given_in (expansions shapes.old) self.now) number
-            (shape_at (expansions shapes.old) input) (row_view (expansions shapes.old) row.now))) }
-        ensures keeps { Keeps (expansions shapes.old) (expansions shapes.new) }
+            (Adds shapes.new arrivals.old.items arrivals.new.items
+            (leaves_row (given_in shapes.old self.now) number
+            (shape_at shapes.old input) (row_view shapes.old row.now))) }
+        ensures keeps { Keeps shapes.old shapes.new }
     {
         let gives = number_given(shapes, self.declared, row.name)?;
         let entered = Entry {
@@ -121,9 +120,9 @@ impl<'w> Walker<'w> {
 /// The number of what the task of that name gives; one that isn't declared gives every tree.
 fn number_given(shapes: &mut Shapes, declared: &Declared, name: &str) -> Result<usize, OutOfMemory>
     ensures within { IfOk result (λ gives. gives < length shapes.new) }
-    ensures gives { IfOk result (λ gives. shape_at (expansions shapes.new) gives
+    ensures gives { IfOk result (λ gives. shape_at shapes.new gives
         ≡ gives_of (declared_view declared.now) name.now) }
-    ensures keeps { Keeps (expansions shapes.old) (expansions shapes.new) }
+    ensures keeps { Keeps shapes.old shapes.new }
 {
     match declared.task(name) {
         Some(task) => shapes.add(&task.gives),

@@ -2,7 +2,7 @@
 
 ghost use Rattle.std.specs.Prelude.{◌≡◌, ◌≤◌, ◌∷◌, ◌++◌, [], length, take, IfOk, IsTrue, false, true};
 ghost use Rattle.asl_model.specs.Shape.{inhabited};
-ghost use Rattle.asl_numbered.specs.Expansion.{expansions, shape_at};
+ghost use Rattle.asl_numbered.specs.Expansion.{shape_at};
 ghost use Rattle.asl_ways.specs.Noted.{AreNoted, IsInsideNone, IsInsideOne};
 
 use crate::arriving::Arrival;
@@ -31,7 +31,7 @@ pub(crate) struct Search {
 impl Search {
     ghost use Rattle.std.specs.Prelude.{◌≡◌, ◌<◌, [], ◌∷◌, ◌++◌, length, map, IfOk, IsTrue, OnOk, Some, slice_get, false, true};
     ghost use Rattle.asl_model.specs.Shape.{inhabited};
-    ghost use Rattle.asl_numbered.specs.Expansion.{expansions, shape_at};
+    ghost use Rattle.asl_numbered.specs.Expansion.{shape_at};
     ghost use Rattle.asl_ways.specs.Adding.{AreBelow};
     ghost use Rattle.asl_ways.specs.Coming.{coming};
     ghost use Rattle.asl_ways.specs.Seeking.{Visits};
@@ -72,8 +72,8 @@ impl Search {
     ) -> Result<(), OutOfMemory>
         requires below { AreBelow (length shapes.old) arrivals.now }
         ensures visits { OnOk result
-            (Visits (expansions shapes.old) self.old self.new
-            (map (coming (expansions shapes.old)) arrivals.now) (Some before)) }
+            (Visits shapes.old self.old self.new
+            (map (coming shapes.old) arrivals.now) (Some before)) }
         ensures unchanged { shapes.new ≡ shapes.old }
     {
         for arrival in arrivals {
@@ -92,8 +92,7 @@ impl Search {
     ) -> Result<(), OutOfMemory>
         requires below { arrival.shape < length shapes.old }
         ensures visits { OnOk result
-            (Visits (expansions shapes.old) self.old self.new
-            (coming (expansions shapes.old) arrival ∷ []) before) }
+            (Visits shapes.old self.old self.new (coming shapes.old arrival ∷ []) before) }
         ensures unchanged { shapes.new ≡ shapes.old }
     {
         if self.is_wanted(shapes, &arrival)? {
@@ -109,15 +108,13 @@ impl Search {
         ensures room { IfOk result
             (λ wanted. IsTrue wanted → length self.now.visits.items < self.now.most) }
         ensures inhabited { IfOk result (λ wanted. IsTrue wanted
-            → inhabited (shape_at (expansions shapes.old) arrival.now.shape) ≡ true) }
+            → inhabited (shape_at shapes.old arrival.now.shape) ≡ true) }
         ensures taken_in { IfOk result
             (λ wanted. wanted ≡ false → length self.now.visits.items < self.now.most
-            → inhabited (shape_at (expansions shapes.old) arrival.now.shape) ≡ true
-            → IsTakenIn (expansions shapes.old) self.now.visits.items
-            (coming (expansions shapes.old) arrival.now)) }
+            → inhabited (shape_at shapes.old arrival.now.shape) ≡ true
+            → IsTakenIn shapes.old self.now.visits.items (coming shapes.old arrival.now)) }
         ensures new { IfOk result (λ wanted. IsTrue wanted
-            → IsNew (expansions shapes.old) self.now.visits.items
-            (coming (expansions shapes.old) arrival.now)) }
+            → IsNew shapes.old self.now.visits.items (coming shapes.old arrival.now)) }
         ensures unchanged { shapes.new ≡ shapes.old }
     {
         if self.visits.len() >= self.most {
@@ -162,12 +159,10 @@ impl Search {
     /// Whether the shape of what comes is inside that of one of the first visits of the state.
     fn was_there(&self, shapes: &mut Shapes, arrival: &Arrival) -> Result<bool, OutOfMemory>
         ensures there { IfOk result (λ there. IsTrue there
-            → IsTakenIn (expansions shapes.old) self.now.visits.items
-            (coming (expansions shapes.old) arrival.now)) }
+            → IsTakenIn shapes.old self.now.visits.items (coming shapes.old arrival.now)) }
         ensures new { IfOk result (λ there. there ≡ false
-            → inhabited (shape_at (expansions shapes.old) arrival.now.shape) ≡ true
-            → IsNew (expansions shapes.old) self.now.visits.items
-            (coming (expansions shapes.old) arrival.now)) }
+            → inhabited (shape_at shapes.old arrival.now.shape) ≡ true
+            → IsNew shapes.old self.now.visits.items (coming shapes.old arrival.now)) }
         ensures unchanged { shapes.new ≡ shapes.old }
     {
         match self.shapes_at.get(arrival.state) {
@@ -189,10 +184,9 @@ fn note(numbers: &mut ArrayVec<usize, MOST_COMPARED>, shape: usize)
 /// Whether the shape of that number is inside one of those.
 fn is_inside_one(shapes: &mut Shapes, inner: usize, outer: &[usize]) -> Result<bool, OutOfMemory>
     ensures inside { IfOk result (λ inside. IsTrue inside
-        → IsInsideOne (expansions shapes.old) inner outer.now) }
+        → IsInsideOne shapes.old inner outer.now) }
     ensures outside { IfOk result (λ inside. inside ≡ false
-        → inhabited (shape_at (expansions shapes.old) inner) ≡ true
-        → IsInsideNone (expansions shapes.old) inner outer.now) }
+        → inhabited (shape_at shapes.old inner) ≡ true → IsInsideNone shapes.old inner outer.now) }
     ensures unchanged { shapes.new ≡ shapes.old }
 {
     shapes.are_proper();

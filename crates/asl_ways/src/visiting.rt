@@ -1,7 +1,7 @@
 //! The visits of states on the ways from a machine's start.
 
 ghost use Rattle.std.specs.Prelude.{◌≡◌, ◌<◌, ◌≤◌, length, IfOk, OnOk, None, Some};
-ghost use Rattle.asl_numbered.specs.Expansion.{expansions, shape_at, Keeps};
+ghost use Rattle.asl_numbered.specs.Expansion.{shape_at, Keeps};
 ghost use Rattle.asl_records.specs.Numbered.{numbered_view, AreEntriesBelow, AreWithin};
 ghost use Rattle.asl_ways.specs.Coming.{leaves, starts};
 ghost use Rattle.asl_ways.specs.Given.{given_in, given_of};
@@ -43,18 +43,17 @@ pub fn visits(
 ) -> Result<Vec<Visit>, OutOfMemory>
     requires within { AreWithin certificate.old }
     ensures visits { IfOk result
-        (λ visits. AreVisits (expansions certificate.new.shapes)
+        (λ visits. AreVisits certificate.new.shapes
         (given_of machine.now declared.now certificate.old) visits.items) }
     ensures all { IfOk result
-        (λ visits. length visits.items < most
-        → AreAll (expansions certificate.new.shapes)
+        (λ visits. length visits.items < most → AreAll certificate.new.shapes
         (given_of machine.now declared.now certificate.old) visits.items) }
     ensures at_most { IfOk result (λ visits. length visits.items ≤ most) }
     ensures below { IfOk result
         (λ visits. AreVisitsBelow (length certificate.new.shapes) visits.items) }
     ensures same { numbered_view certificate.new ≡ numbered_view certificate.old }
     ensures within { AreWithin certificate.new }
-    ensures keeps { Keeps (expansions certificate.old.shapes) (expansions certificate.new.shapes) }
+    ensures keeps { Keeps certificate.old.shapes certificate.new.shapes }
     ensures output { certificate.new.output ≡ certificate.old.output }
     ensures states { certificate.new.states ≡ certificate.old.states }
 {
@@ -72,16 +71,14 @@ impl Walker<'_> {
     fn visits(&self, shapes: &mut Shapes, most: usize) -> Result<Vec<Visit>, OutOfMemory>
         requires states { AreEntriesBelow (length shapes.old) self.now.states.now.entries }
         ensures visits { IfOk result
-            (λ visits. AreVisits (expansions shapes.new)
-            (given_in (expansions shapes.old) self.now) visits.items) }
+            (λ visits. AreVisits shapes.new (given_in shapes.old self.now) visits.items) }
         ensures all { IfOk result
-            (λ visits. length visits.items < most
-            → AreAll (expansions shapes.new)
-            (given_in (expansions shapes.old) self.now) visits.items) }
+            (λ visits. length visits.items < most → AreAll shapes.new
+            (given_in shapes.old self.now) visits.items) }
         ensures at_most { IfOk result (λ visits. length visits.items ≤ most) }
         ensures below { IfOk result
             (λ visits. AreVisitsBelow (length shapes.new) visits.items) }
-        ensures keeps { Keeps (expansions shapes.old) (expansions shapes.new) }
+        ensures keeps { Keeps shapes.old shapes.new }
     {
         let mut search = Search::new(self.alloc, most);
         self.visit_start(shapes, &mut search)?;
@@ -97,9 +94,8 @@ impl Walker<'_> {
     /// Adds the visit of the machine's start, if its input comes to a state.
     fn visit_start(&self, shapes: &mut Shapes, search: &mut Search) -> Result<(), OutOfMemory>
         ensures visits { OnOk result
-            (Visits (expansions shapes.new) search.old search.new
-            (starts (given_in (expansions shapes.old) self.now)) None) }
-        ensures keeps { Keeps (expansions shapes.old) (expansions shapes.new) }
+            (Visits shapes.new search.old search.new (starts (given_in shapes.old self.now)) None) }
+        ensures keeps { Keeps shapes.old shapes.new }
     {
         let start = self.start(shapes)?;
         match start {
@@ -119,10 +115,10 @@ impl Walker<'_> {
         requires states { AreEntriesBelow (length shapes.old) self.now.states.now.entries }
         requires below { arrival.now.shape < length shapes.old }
         ensures visits { OnOk result
-            (Visits (expansions shapes.new) search.old search.new
-            (leaves (given_in (expansions shapes.old) self.now) arrival.now.state
-            (shape_at (expansions shapes.old) arrival.now.shape)) (Some place)) }
-        ensures keeps { Keeps (expansions shapes.old) (expansions shapes.new) }
+            (Visits shapes.new search.old search.new
+            (leaves (given_in shapes.old self.now) arrival.now.state
+            (shape_at shapes.old arrival.now.shape)) (Some place)) }
+        ensures keeps { Keeps shapes.old shapes.new }
     {
         let mut arrivals = Vec::new(self.alloc);
         self.push_leaving(shapes, &mut arrivals, arrival.state, arrival.shape)?;

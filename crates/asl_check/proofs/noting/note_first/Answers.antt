@@ -1,5 +1,4 @@
-use Rattle.asl_numbered.specs.Expansion.{expansions}
-use Rattle.asl_numbered.proofs.Expansions.{keeps_trans}
+use Rattle.asl_numbered.specs.Laws.{keeps_trans}
 use Rattle.asl_check.proofs.Adding.{rule_shown, rule_within}
 use Rattle.asl_check.proofs.Notes.{one_noted}
 use Rattle.asl_check.proofs.noting.note_first.Goals as goal
@@ -15,5 +14,5 @@ loop-rule-preserved c =
     let within = c.loop-rule-test.true in
     record {
       keeps = keeps_trans _ _ _ l.invariant.keeps c.in_ok-note.ensures.keeps;
-      left = one_noted (expansions a) rules _ _ l.rule-index c.rule-item.result within c.rule-item.is l.invariant.left (rw (rule_shown a l.shapes rules l.rule-index c.rule-item.result c.rule-item.is l.invariant.keeps within c.requires.below) at c.in_ok-note.ensures.noted);
+      left = one_noted a rules _ _ l.rule-index c.rule-item.result within c.rule-item.is l.invariant.left (rw (rule_shown a l.shapes rules l.rule-index c.rule-item.result c.rule-item.is l.invariant.keeps within c.requires.below) at c.in_ok-note.ensures.noted);
     }

@@ -1,4 +1,4 @@
-use Rattle.asl_numbered.specs.Expansion.{expansions, Keeps}
+use Rattle.asl_numbered.specs.Expansion.{Keeps}
 use Rattle.asl_check.specs.Listing.{rules_view}
 use Rattle.asl_check.specs.Noting.{AreNoted}
 use Rattle.asl_check.proofs.Notes.{with_left}
@@ -7,8 +7,8 @@ use Rattle.asl_check.proofs.noting.note_first.Given as goal
 -- those of the rules left are still to be noted, and the shapes have kept their numbers
 abbrev pub invariant-loop-rule : goal.invariant-loop-rule
 invariant-loop-rule l =
-    let table = expansions l.fn.shapes in
+    let table = l.fn.shapes in
     record {
-      keeps : Keeps table (expansions l.shapes);
+      keeps : Keeps table l.shapes;
       left : AreNoted (rules_view table l.rules) (with_left table l.rules l.notes.entries l.rule-index);
     }

@@ -1,8 +1,7 @@
 use Rattle.std.proofs.Common.{sym, subst, ◌∙◌}
 use Rattle.std.specs.List.{All}
 use Rattle.std.proofs.lemmas.List.Elements.{All-push}
-use Rattle.asl_numbered.specs.Expansion.{expansions}
-use Rattle.asl_numbered.proofs.Expansions.{keeps_trans}
+use Rattle.asl_numbered.specs.Laws.{keeps_trans}
 use Rattle.asl_check.proofs.Adding.{rule_shown, rule_within}
 use Rattle.asl_check.proofs.Findings.{all_told, one_told}
 use Rattle.asl_check.specs.View.{IsLocated}
@@ -22,8 +21,8 @@ loop-rule-preserved c =
     record {
       keeps = keeps_trans _ _ _ l.invariant.keeps c.in_ok-finding.ensures.keeps;
       located = subst (All IsLocated) (sym c.in_ok-push.ensures.items) (All-push IsLocated l.findings.items c.in_ok-finding.finding l.invariant.located c.in_ok-finding.ensures.located);
-      told = one_told (expansions a) rules l.findings.items _ c.in_ok-finding.finding l.rule-index rule c.in_ok-push.ensures.items seen within c.rule-item.is ∙ l.invariant.told;
+      told = one_told a rules l.findings.items _ c.in_ok-finding.finding l.rule-index rule c.in_ok-push.ensures.items seen within c.rule-item.is ∙ l.invariant.told;
     }
 
 pub returns-clause-told : goal.returns-clause-told
-returns-clause-told c = all_told (expansions c.args.shapes.now) c.args.rules.now c.loop-rule.findings.items c.loop-rule.rule-index c.loop-rule-test.false c.loop-rule.invariant.told
+returns-clause-told c = all_told c.args.shapes.now c.args.rules.now c.loop-rule.findings.items c.loop-rule.rule-index c.loop-rule-test.false c.loop-rule.invariant.told

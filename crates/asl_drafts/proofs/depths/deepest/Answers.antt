@@ -1,8 +1,8 @@
 use Rattle.std.proofs.Common.{◌≡◌, length, drop, get_or, ◌+◌, ◌∷◌}
 use Rattle.std.proofs.lemmas.List.{drop_more}
-use Rattle.asl_numbered.proofs.Expansions.{below_next}
 use Rattle.asl_drafts.specs.Depths.{told_depth_of_elements}
 use Rattle.asl_numbered.specs.Expansion.{shapes_at}
+use Rattle.asl_numbered.specs.Laws.{below_next}
 use Rattle.asl_drafts.proofs.Measured.{depth_at, deeper, greater}
 use Rattle.asl_drafts.proofs.depths.deepest.Goals as goal
 

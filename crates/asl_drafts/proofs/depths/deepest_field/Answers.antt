@@ -1,8 +1,8 @@
 use Rattle.std.proofs.Common.{length, get_or, String, Global}
 use Rattle.asl_numbered.specs.declared.node.NodeField.{NodeField}
-use Rattle.asl_numbered.proofs.Expansions.{below_next_field}
 use Rattle.asl_drafts.specs.Depths.{told_depth_of_fields}
 use Rattle.asl_numbered.specs.Expansion.{fields_at}
+use Rattle.asl_numbered.specs.Laws.{below_next_field}
 use Rattle.asl_drafts.proofs.Measured.{depth_at, field_deeper, greater}
 use Rattle.asl_drafts.proofs.depths.deepest_field.Goals as goal
 

@@ -1,5 +1,5 @@
 use Rattle.std.proofs.Common.{length}
-use Rattle.asl_numbered.proofs.Expansions.{below-behind, below-front}
+use Rattle.asl_numbered.specs.Laws.{below-behind, below-front}
 use Rattle.asl_drafts.specs.Parts.{numbers_in_arrays, numbers_in_objects}
 use Rattle.asl_drafts.proofs.depths.depth_over.Goals as goal
 

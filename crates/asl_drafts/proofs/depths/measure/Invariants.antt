@@ -1,7 +1,6 @@
 use Rattle.std.proofs.Common.{◌≡◌, length}
-use Rattle.asl_numbered.specs.Expansion.{expansions}
 use Rattle.asl_drafts.specs.Depths.{AreDepths}
 use Rattle.asl_drafts.proofs.depths.measure.Given as goal
 
 abbrev pub invariant-loop-number : goal.invariant-loop-number
-invariant-loop-number l = AreDepths (expansions l.shapes) l.depths.items × (l.number ≡ length l.depths.items)
+invariant-loop-number l = AreDepths l.shapes l.depths.items × (l.number ≡ length l.depths.items)

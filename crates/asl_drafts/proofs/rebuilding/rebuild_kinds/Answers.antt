@@ -1,5 +1,5 @@
 use Rattle.std.proofs.Common.{◌-◌, drop, length}
-use Rattle.asl_numbered.proofs.Expansions.{below-drop, below-take}
+use Rattle.asl_numbered.specs.Laws.{below-drop, below-take}
 use Rattle.asl_drafts.proofs.Rebuilt.{rebuilt_shown}
 use Rattle.asl_drafts.proofs.rebuilding.rebuild_kinds.Goals as goal
 

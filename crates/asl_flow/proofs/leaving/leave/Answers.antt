@@ -2,15 +2,15 @@ use Rattle.std.proofs.Common.{◌≡◌, Err, rules}
 use Rattle.asl_states.specs.Machine.{settings_view, kind_view}
 use Rattle.asl_model.specs.ShapeFlow as model
 use Rattle.asl_shape.specs.View.{view}
+use Rattle.asl_numbered.specs.Laws.{kept_within}
 use Rattle.asl_flow.proofs.Leavings.{reached_through, stopped_through}
-use Rattle.asl_flow.proofs.Numbered.{still_within, number_within}
 use Rattle.asl_flow.proofs.leaving.leave.Goals as goal
 
 pub leave_at-requires-clause-raw : goal.leave_at-requires-clause-raw
-leave_at-requires-clause-raw c = still_within c.add.new.self c.add-2.new.self c.in_ok-raw.raw c.add-2.ensures.keeps (number_within c.add.new.self _ c.in_ok-raw.raw c.in_ok-raw.ensures.number)
+leave_at-requires-clause-raw c = kept_within c.add.new.self c.add-2.new.self c.in_ok-raw.raw c.add-2.ensures.keeps (c.in_ok-raw.ensures.number.within)
 
 pub leave_at-requires-clause-work : goal.leave_at-requires-clause-work
-leave_at-requires-clause-work c = number_within c.add-2.new.self _ c.in_ok-work.work c.in_ok-work.ensures.number
+leave_at-requires-clause-work c = c.in_ok-work.ensures.number.within
 
 pub returns-in_err-output-clause-refused : goal.returns-in_err-output-clause-refused
 returns-in_err-output-clause-refused c =
@@ -20,7 +20,7 @@ returns-in_err-output-clause-refused c =
     rw told (stopped_through c.add.new.self c.add-2.new.self (model.leave settings kind) (view c.args.raw.now) (view c.args.work.now) c.in_ok-raw.raw c.in_ok-work.work c.in_ok-raw.ensures.number c.add-2.ensures.keeps c.in_ok-work.ensures.number c.in_err-output.field-0.0 c.in_err-output.ensures.refused)
 
 pub expand-requires : goal.expand-requires
-expand-requires c = record { number = number_within c.leave_at.new.shapes _ c.in_ok-output.output c.in_ok-output.ensures.number }
+expand-requires c = record { number = c.in_ok-output.ensures.number.within }
 
 pub returns-clause-as_defined : goal.returns-clause-as_defined
 returns-clause-as_defined c =

@@ -1,5 +1,5 @@
 use Rattle.asl_model.specs.ShapeFlow as model
-use Rattle.asl_numbered.specs.Expansion.{expansions, shape_at}
+use Rattle.asl_numbered.specs.Expansion.{shape_at}
 use Rattle.asl_states.specs.Machine.{settings_view, kind_view}
 use Rattle.asl_flow.proofs.DoubtfulTemplates.{leave_refused}
 use Rattle.asl_flow.proofs.Refusals.{way_cause}
@@ -7,7 +7,7 @@ use Rattle.asl_flow.proofs.leaving.leave_at.Goals as goal
 
 pub fault_told-requires : goal.fault_told-requires
 fault_told-requires c =
-    let table = expansions c.args.shapes.now in
+    let table = c.args.shapes.now in
     let settings = settings_view c.args.state.now.settings in
     let kind = kind_view c.args.state.now.kind in
     let raw = shape_at table c.args.raw in

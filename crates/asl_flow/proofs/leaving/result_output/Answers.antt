@@ -1,6 +1,6 @@
-use Rattle.asl_flow.proofs.Numbered.{still_within}
+use Rattle.asl_numbered.specs.Laws.{kept_within}
 use Rattle.asl_flow.proofs.leaving.result_output.Goals as goal
 
 pub placed-requires-clause-raw : goal.placed-requires-clause-raw
 placed-requires-clause-raw c =
-    still_within c.args.shapes.now c.through_template.new.shapes c.args.raw c.in_ok-selected.ensures.keeps c.requires.raw
+    kept_within c.args.shapes.now c.through_template.new.shapes c.args.raw c.in_ok-selected.ensures.keeps c.requires.raw

@@ -2,9 +2,9 @@ use Rattle.std.proofs.Common.{◌≡◌, ◌+◌, [], ◌∷◌, ◌++◌, take,
 use Rattle.std.proofs.lemmas.Grind.{common_steps}
 use Rattle.std.specs.List.Sorted.{IsStrictlySortedBy}
 use Rattle.std.specs.Map.{keys_of}
-use Rattle.asl_numbered.proofs.Expansions.{keeps_trans}
 use Rattle.asl_tree.specs.declared.Tree.{Tree}
-use Rattle.asl_flow.proofs.Composed.{number_more, field_more, numbers_below, fields_below}
+use Rattle.asl_numbered.specs.Laws.{keeps_trans}
+use Rattle.asl_flow.proofs.Composed.{number_more, field_more}
 use Rattle.asl_flow.proofs.LiteralFields.{of_itself, elements_end, fields_end}
 use Rattle.asl_flow.proofs.literals.+literal.Goals as goal
 
@@ -49,8 +49,8 @@ field_shapes-returns t c = record {
 
 pub own_shape-closed_list-requires : goal.own_shape-closed_list-requires
 own_shape-closed_list-requires t c =
-    record { first = numbers_below c.element_shapes.new.shapes _ c.in_ok-first-in-List.first.items c.in_ok-first-in-List.ensures.numbers }
+    record { first = c.in_ok-first-in-List.ensures.numbers.within }
 
 pub own_shape-closed_object-requires : goal.own_shape-closed_object-requires
 own_shape-closed_object-requires t c =
-    record { fields = fields_below c.field_shapes.new.shapes _ c.in_ok-mentions-in-Object.mentions.entries c.in_ok-mentions-in-Object.ensures.numbers }
+    record { fields = c.in_ok-mentions-in-Object.ensures.numbers.within }

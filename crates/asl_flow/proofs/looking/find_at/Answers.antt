@@ -1,5 +1,5 @@
+use Rattle.asl_numbered.specs.Laws.{own_number}
 use Rattle.asl_flow.proofs.FoundPaths.{found_own}
-use Rattle.asl_flow.proofs.Numbered.{own_number}
 use Rattle.asl_flow.proofs.looking.find_at.Goals as goal
 
 pub returns-then-is_inhabited-clause-number : goal.returns-then-is_inhabited-clause-number

@@ -1,5 +1,5 @@
 use Rattle.std.proofs.Common.{◌≡◌, Err, rules}
-use Rattle.asl_numbered.specs.Expansion.{expansions, shape_at}
+use Rattle.asl_numbered.specs.Expansion.{shape_at}
 use Rattle.asl_flow.specs.declared.looking.LookRefusal.TheVariants.{OutOfMemory}
 use Rattle.asl_flow.proofs.FoundPaths.{never_refused}
 use Rattle.asl_flow.proofs.looking.look_at.Goals as goal
@@ -7,4 +7,4 @@ use Rattle.asl_flow.proofs.looking.look_at.Goals as goal
 pub returns-in_err-part-clause-may_be_missing : goal.returns-in_err-part-clause-may_be_missing
 returns-in_err-part-clause-may_be_missing c =
     let refused : c.from_residual.result ≡ Err OutOfMemory = search rules in
-    λ at. (λ e. absurd (cc), λ e. absurd (never_refused c.args.path.now (shape_at (expansions c.args.shapes.now) c.args.number) at c.in_err-part.ensures.refused e))
+    λ at. (λ e. absurd (cc), λ e. absurd (never_refused c.args.path.now (shape_at c.args.shapes.now c.args.number) at c.in_err-part.ensures.refused e))

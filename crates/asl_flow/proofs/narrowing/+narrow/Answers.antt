@@ -1,12 +1,12 @@
 use Rattle.std.proofs.Common.{Some, None, string_bytes, length, ◌∙◌, arith}
 use Rattle.asl_model.specs.ShapeFlow.{where_present}
-use Rattle.asl_numbered.specs.Expansion.{expansions, shape_at, shapes_at, fields_at}
+use Rattle.asl_numbered.specs.Expansion.{shape_at, shapes_at, fields_at}
 use Rattle.asl_numbered.specs.TakenApart.{simple_of, arrays_over, objects_over}
+use Rattle.asl_numbered.specs.Laws.{kept_within}
 use Rattle.asl_path.specs.View.{segments_view}
 use Rattle.asl_flow.proofs.Composed.{shows_equal}
 use Rattle.asl_flow.proofs.KindNumbers.{objects_shown, objects_within, arrays_shown, arrays_within}
 use Rattle.asl_flow.proofs.NarrowedParts.{place_found, place_within, mention_found, field_within, narrowed_list, same_list, narrowed_object, widened_object, closed_object}
-use Rattle.asl_flow.proofs.Numbered.{still_within}
 use Rattle.asl_flow.proofs.narrowing.+narrow.Goals as goal
 
 -- ---- a field of the objects
@@ -19,12 +19,12 @@ narrow_field-narrow_to_present-requires t c =
 
 pub narrow_field-put_field-requires-clause-number : goal.narrow_field-put_field-requires-clause-number
 narrow_field-put_field-requires-clause-number t c =
-    still_within c.args.shapes.now c.narrow_to_present.new.shapes c.args.number c.in_ok-narrowed-in-Some-copied.ensures.keeps c.requires.number
+    kept_within c.args.shapes.now c.narrow_to_present.new.shapes c.args.number c.in_ok-narrowed-in-Some-copied.ensures.keeps c.requires.number
 
 pub narrow_field-returns-in_ok-narrowed-in-Some-copied-clause-shown :
     goal.narrow_field-returns-in_ok-narrowed-in-Some-copied-clause-shown
 narrow_field-returns-in_ok-narrowed-in-Some-copied-clause-shown t c =
-    let table = expansions c.args.shapes.now in
+    let table = c.args.shapes.now in
     let kinds = c.in-Some.kinds in
     let objects = c.in-Some-objects.objects in
     let field = c.in-Some-copied.field in
@@ -37,12 +37,12 @@ narrow_field-returns-in_ok-narrowed-in-Some-copied-clause-shown t c =
 pub narrow_field-put_field-requires-in-None-clause-number :
     goal.narrow_field-put_field-requires-in-None-clause-number
 narrow_field-put_field-requires-in-None-clause-number t c =
-    still_within c.args.shapes.now c.put_node.new.shapes c.args.number c.in_ok-any-in-None.ensures.keeps c.requires.number
+    kept_within c.args.shapes.now c.put_node.new.shapes c.args.number c.in_ok-any-in-None.ensures.keeps c.requires.number
 
 pub narrow_field-returns-in_ok-any-in-None-clause-shown :
     goal.narrow_field-returns-in_ok-any-in-None-clause-shown
 narrow_field-returns-in_ok-any-in-None-clause-shown t c =
-    let table = expansions c.args.shapes.now in
+    let table = c.args.shapes.now in
     let kinds = c.in-Some.kinds in
     let objects = c.in-Some-objects.objects in
     let go_on = where_present (segments_view c.args.rest.now) in
@@ -53,7 +53,7 @@ narrow_field-returns-in_ok-any-in-None-clause-shown t c =
 
 pub narrow_field-returns-in-None-2-clause-shown : goal.narrow_field-returns-in-None-2-clause-shown
 narrow_field-returns-in-None-2-clause-shown t c =
-    let table = expansions c.args.shapes.now in
+    let table = c.args.shapes.now in
     let kinds = c.in-Some.kinds in
     let objects = c.in-Some-objects.objects in
     let go_on = where_present (segments_view c.args.rest.now) in
@@ -73,12 +73,12 @@ narrow_place-narrow_to_present-requires t c =
 pub narrow_place-put_place-requires-clause-number :
     goal.narrow_place-put_place-requires-clause-number
 narrow_place-put_place-requires-clause-number t c =
-    still_within c.args.shapes.now c.narrow_to_present.new.shapes c.args.number c.in_ok-narrowed-in-Some-copied.ensures.keeps c.requires.number
+    kept_within c.args.shapes.now c.narrow_to_present.new.shapes c.args.number c.in_ok-narrowed-in-Some-copied.ensures.keeps c.requires.number
 
 pub narrow_place-returns-in_ok-narrowed-in-Some-copied-clause-shown :
     goal.narrow_place-returns-in_ok-narrowed-in-Some-copied-clause-shown
 narrow_place-returns-in_ok-narrowed-in-Some-copied-clause-shown t c =
-    let table = expansions c.args.shapes.now in
+    let table = c.args.shapes.now in
     let kinds = c.in-Some.kinds in
     let arrays = c.in-Some-arrays.arrays in
     let go_on = where_present (segments_view c.args.rest.now) in
@@ -89,7 +89,7 @@ narrow_place-returns-in_ok-narrowed-in-Some-copied-clause-shown t c =
 
 pub narrow_place-returns-in-None-clause-shown : goal.narrow_place-returns-in-None-clause-shown
 narrow_place-returns-in-None-clause-shown t c =
-    let table = expansions c.args.shapes.now in
+    let table = c.args.shapes.now in
     let kinds = c.in-Some.kinds in
     let arrays = c.in-Some-arrays.arrays in
     let go_on = where_present (segments_view c.args.rest.now) in

@@ -1,4 +1,4 @@
-use Rattle.asl_flow.proofs.Numbered.{told_shows}
+use Rattle.asl_numbered.specs.Laws.{told_shows}
 use Rattle.asl_flow.proofs.numbers.put_node.Goals as goal
 
 pub returns-clause-shown : goal.returns-clause-shown

@@ -5,21 +5,21 @@ use Rattle.asl_model.specs.Shape.{Never}
 use Rattle.asl_model.specs.ShapeFlow.{put as put_shape, built_shape}
 use Rattle.asl_flow.specs.Counting.{counted_on}
 use Rattle.asl_flow.specs.Putting.{Answers}
-use Rattle.asl_flow.proofs.Numbered.{still_within, still_shown}
 use Rattle.asl_flow.proofs.NumberedParts.{field_below}
 use Rattle.asl_flow.proofs.Puts.{answered_in_list, refused_in_object, answered_in_object, nothing_put, put_first, second_refused, both_joined, answered}
-use Rattle.asl_numbered.specs.Expansion.{expansions, shape_at}
+use Rattle.asl_numbered.specs.Expansion.{shape_at}
+use Rattle.asl_numbered.specs.Laws.{kept_shape, kept_within}
 use Rattle.asl_path.specs.View.{segment_view, segments_view}
 use Rattle.asl_flow.proofs.putting.+put.Goals as goal
 
 pub put_in_list-put_place-requires-clause-number :
     goal.put_in_list-put_place-requires-clause-number
-put_in_list-put_place-requires-clause-number t c = still_within c.args.shapes.now c.put_segments.new.shapes c.args.number c.put_segments.ensures.keeps c.requires.number
+put_in_list-put_place-requires-clause-number t c = kept_within c.args.shapes.now c.put_segments.new.shapes c.args.number c.put_segments.ensures.keeps c.requires.number
 
 pub put_in_list-returns-clause-answers : goal.put_in_list-returns-clause-answers
 put_in_list-returns-clause-answers t c =
     let p = segments_view c.args.further.now in
-    let w = shape_at (expansions c.args.shapes.now) c.args.placed in
+    let w = shape_at c.args.shapes.now c.args.placed in
     answered_in_list c.args.shapes.now c.put_segments.new.shapes c.put_place.new.shapes c.args.at c.args.index (put_shape p w) p w c.args.number c.place_of.result c.in-Some.place c.in_ok-changed.changed c.in_ok-put_place.field-0
     c.requires.number c.put_segments.ensures.keeps c.place_of.ensures.part c.in-Some.is c.in_ok-changed.ensures.answers c.in_ok-put_place.ensures.shown
 
@@ -33,7 +33,7 @@ pub put_in_object-returns-in_err-value-clause-answers :
     goal.put_in_object-returns-in_err-value-clause-answers
 put_in_object-returns-in_err-value-clause-answers t c =
     let p = segments_view c.args.further.now in
-    let table = expansions c.args.shapes.now in
+    let table = c.args.shapes.now in
     let w = shape_at table c.args.placed in
     let s = shape_at table c.args.number in
     let objects = c.in-Some.objects in
@@ -41,53 +41,53 @@ put_in_object-returns-in_err-value-clause-answers t c =
 
 pub put_in_object-put_field-requires-clause-number :
     goal.put_in_object-put_field-requires-clause-number
-put_in_object-put_field-requires-clause-number t c = still_within c.args.shapes.now c.put_in_field.new.shapes c.args.number c.put_in_field.ensures.keeps c.requires.number
+put_in_object-put_field-requires-clause-number t c = kept_within c.args.shapes.now c.put_in_field.new.shapes c.args.number c.put_in_field.ensures.keeps c.requires.number
 
 pub put_in_object-returns-clause-answers : goal.put_in_object-returns-clause-answers
 put_in_object-returns-clause-answers t c =
     let p = segments_view c.args.further.now in
-    let w = shape_at (expansions c.args.shapes.now) c.args.placed in
+    let w = shape_at c.args.shapes.now c.args.placed in
     let objects = c.in-Some.objects in
     answered_in_object c.args.shapes.now c.put_in_field.new.shapes c.put_field.new.shapes c.args.at (put_shape p w) p w c.args.number c.args.name.now objects.fields.now objects.extra c.copied-field.result c.in_ok-value.value c.in_ok-put_field.field-0
     c.requires.number c.put_in_field.ensures.keeps (sym c.in-Some.ensures.shown) (c.copied-field.ensures ∙ c.get.ensures.value) c.in_ok-value.ensures.answers c.in_ok-put_field.ensures.shown
 
 pub put_in_optional-build-requires-clause-placed :
     goal.put_in_optional-build-requires-clause-placed
-put_in_optional-build-requires-clause-placed t c = still_within c.args.shapes.now c.put_segments.new.shapes c.args.placed c.put_segments.ensures.keeps c.requires.placed
+put_in_optional-build-requires-clause-placed t c = kept_within c.args.shapes.now c.put_segments.new.shapes c.args.placed c.put_segments.ensures.keeps c.requires.placed
 
 pub put_in_optional-returns-in_err-built-clause-answers :
     goal.put_in_optional-returns-in_err-built-clause-answers
 put_in_optional-returns-in_err-built-clause-answers t c =
     let p = segments_view c.args.segments.now in
-    let w = shape_at (expansions c.args.shapes.now) c.args.placed in
-    let s = shape_at (expansions c.args.shapes.now) c.args.number in
-    let stays = still_shown c.args.shapes.now c.put_segments.new.shapes c.args.placed c.put_segments.ensures.keeps c.requires.placed in
+    let w = shape_at c.args.shapes.now c.args.placed in
+    let s = shape_at c.args.shapes.now c.args.number in
+    let stays = kept_shape c.args.shapes.now c.put_segments.new.shapes c.args.placed c.put_segments.ensures.keeps c.requires.placed in
     second_refused c.put_segments.new.shapes c.build.new.shapes c.build.new.shapes c.args.at (put_shape p w s) (built_shape p w) c.in_ok-changed.changed c.in_err-built.field-0.0 c.from_residual-in_err-built.result c.in_ok-changed.ensures.answers (rw stays at c.in_err-built.ensures.answers) (search rules)
 
 pub put_in_optional-put_join-requires-clause-first :
     goal.put_in_optional-put_join-requires-clause-first
-put_in_optional-put_join-requires-clause-first t c = still_within c.put_segments.new.shapes c.build.new.shapes c.in_ok-changed.changed c.build.ensures.keeps c.in_ok-changed.ensures.answers.within
+put_in_optional-put_join-requires-clause-first t c = kept_within c.put_segments.new.shapes c.build.new.shapes c.in_ok-changed.changed c.build.ensures.keeps c.in_ok-changed.ensures.answers.within
 
 pub put_in_optional-returns-clause-answers : goal.put_in_optional-returns-clause-answers
 put_in_optional-returns-clause-answers t c =
     let p = segments_view c.args.segments.now in
-    let w = shape_at (expansions c.args.shapes.now) c.args.placed in
-    let s = shape_at (expansions c.args.shapes.now) c.args.number in
-    let stays = still_shown c.args.shapes.now c.put_segments.new.shapes c.args.placed c.put_segments.ensures.keeps c.requires.placed in
-    let changed = still_shown c.put_segments.new.shapes c.build.new.shapes c.in_ok-changed.changed c.build.ensures.keeps c.in_ok-changed.ensures.answers.within in
+    let w = shape_at c.args.shapes.now c.args.placed in
+    let s = shape_at c.args.shapes.now c.args.number in
+    let stays = kept_shape c.args.shapes.now c.put_segments.new.shapes c.args.placed c.put_segments.ensures.keeps c.requires.placed in
+    let changed = kept_shape c.put_segments.new.shapes c.build.new.shapes c.in_ok-changed.changed c.build.ensures.keeps c.in_ok-changed.ensures.answers.within in
     both_joined c.put_segments.new.shapes c.build.new.shapes c.put_join.new.shapes c.args.at (put_shape p w s) (built_shape p w) c.in_ok-changed.changed c.in_ok-built.built c.in_ok-put_join.field-0 c.in_ok-changed.ensures.answers (rw stays at c.in_ok-built.ensures.answers) changed c.in_ok-put_join.ensures.shown
 
 pub put_segments-returns-then-not-are_inhabited-clause-answers :
     goal.put_segments-returns-then-not-are_inhabited-clause-answers
 put_segments-returns-then-not-are_inhabited-clause-answers t c =
-    let table = expansions c.args.shapes.now in
+    let table = c.args.shapes.now in
     let neither = sym c.are_inhabited.ensures.as_defined ∙ c.if-not-are_inhabited.true in
     answered c.put_never.new.shapes c.args.at _ Never _ (nothing_put (segments_view c.args.segments.now) (shape_at table c.args.placed) (shape_at table c.args.number) neither) (search rules)
 
 pub put_segments-returns-in-Index-clause-answers :
     goal.put_segments-returns-in-Index-clause-answers
 put_segments-returns-in-Index-clause-answers t c =
-    let table = expansions c.args.shapes.now in
+    let table = c.args.shapes.now in
     let both = sym c.are_inhabited.ensures.as_defined ∙ c.if-not-are_inhabited.false in
     let items = c.args.segments.now in
     let further : take (length items - 1) (drop 1 items) ≡ drop 1 items = search (rules, take_all) in

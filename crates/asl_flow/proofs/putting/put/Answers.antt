@@ -1,15 +1,15 @@
 use Rattle.std.proofs.Common.{◌≡◌, Err, sym, ap, ◌∙◌, rules}
 use Rattle.asl_flow.specs.declared.putting.PutRefusal.TheVariants.{MayNotFit}
-use Rattle.asl_flow.proofs.Numbered.{still_within, number_within}
 use Rattle.asl_flow.proofs.Puts.{put_through, refused_through}
 use Rattle.asl_shape.specs.View.{view}
+use Rattle.asl_numbered.specs.Laws.{kept_within}
 use Rattle.asl_flow.proofs.putting.put.Goals as goal
 
 pub put_at-requires-clause-number : goal.put_at-requires-clause-number
-put_at-requires-clause-number c = still_within c.add.new.self c.add-2.new.self c.in_ok-number.number c.add-2.ensures.keeps (number_within c.add.new.self _ c.in_ok-number.number c.in_ok-number.ensures.number)
+put_at-requires-clause-number c = kept_within c.add.new.self c.add-2.new.self c.in_ok-number.number c.add-2.ensures.keeps (c.in_ok-number.ensures.number.within)
 
 pub put_at-requires-clause-placed : goal.put_at-requires-clause-placed
-put_at-requires-clause-placed c = number_within c.add-2.new.self _ c.in_ok-placed.placed c.in_ok-placed.ensures.number
+put_at-requires-clause-placed c = c.in_ok-placed.ensures.number.within
 
 pub returns-in_err-changed-clause-may_not_fit : goal.returns-in_err-changed-clause-may_not_fit
 returns-in_err-changed-clause-may_not_fit c =
@@ -19,7 +19,7 @@ returns-in_err-changed-clause-may_not_fit c =
     refused_through c.add.new.self c.add-2.new.self c.args.path.now (view c.args.placed.now) (view c.args.shape.now) c.in_ok-number.number c.in_ok-placed.placed at c.in_ok-number.ensures.number c.add-2.ensures.keeps c.in_ok-placed.ensures.number (c.in_err-changed.ensures.may_not_fit at (ap Err same))
 
 pub expand-requires : goal.expand-requires
-expand-requires c = record { number = number_within c.put_at.new.shapes _ c.in_ok-changed.changed c.in_ok-changed.ensures.number }
+expand-requires c = record { number = c.in_ok-changed.ensures.number.within }
 
 pub returns-clause-as_defined : goal.returns-clause-as_defined
 returns-clause-as_defined c =

@@ -1,5 +1,5 @@
 use Rattle.std.proofs.Common.{◌≡◌, ◌∙◌, Some, ap, sym, length, option_map, rules, string_bytes}
-use Rattle.asl_numbered.specs.Expansion.{expansions, shape_at, fields_at}
+use Rattle.asl_numbered.specs.Expansion.{shape_at, fields_at}
 use Rattle.asl_flow.proofs.Replaced.{field_refers}
 use Rattle.asl_flow.proofs.Stays.{field_stays}
 use Rattle.asl_flow.proofs.replacing.put_field.Goals as goal
@@ -11,7 +11,7 @@ put_node-requires-clause-refers c =
 
 pub returns-then-eq-clause-shown : goal.returns-then-eq-clause-shown
 returns-then-eq-clause-shown c =
-    let table = expansions c.args.shapes.now in
+    let table = c.args.shapes.now in
     let objects = c.in-Some.objects in
     let is : c.needed_field.result ≡ Some c.args.field = search rules in
     let named = sym (c.needed_field.ensures.part table) ∙ ap (option_map (shape_at table)) is in

@@ -2,19 +2,18 @@ use Rattle.std.proofs.Common.{◌≡◌, Ok, ap, rules, ◌∙◌}
 use Rattle.asl_choice.specs.View.{kind_view, view as test_view}
 use Rattle.asl_choice.specs.declared.rule.Test.{the_lemmas}
 use Rattle.asl_model.specs.Test.{IsOfKind}
-use Rattle.asl_numbered.specs.Expansion.{expansions, shape_at}
-use Rattle.asl_numbered.proofs.Expansions.{keeps_trans}
+use Rattle.asl_numbered.specs.Expansion.{shape_at}
+use Rattle.asl_numbered.specs.Laws.{keeps_trans, kept_shape, kept_within}
 use Rattle.asl_flow.specs.Doubts.{found_view}
 use Rattle.asl_flow.proofs.DoubtfulPaths.{kind_found}
-use Rattle.asl_flow.proofs.FoundPaths.{then_kept, kept_within}
+use Rattle.asl_flow.proofs.FoundPaths.{then_kept, still_found}
 use Rattle.asl_flow.proofs.NarrowedTests.{found_next}
-use Rattle.asl_flow.proofs.Numbered.{still_within, still_shown}
 use Rattle.asl_flow.proofs.rules.+narrow.Goals as goal
 
 pub check-returns-in-IsOfKind-clause-as_defined : goal.check-returns-in-IsOfKind-clause-as_defined
 check-returns-in-IsOfKind-clause-as_defined t c =
     let test = c.in-IsOfKind in
-    let s = shape_at (expansions c.args.shapes.now) c.args.number in
+    let s = shape_at c.args.shapes.now c.args.number in
     let is : test_view c.args.test.now ≡ IsOfKind test.variable (kind_view test.kind) test.wanted = search (rules, the_lemmas) in
     rw is (kind_found test.variable (kind_view test.kind) test.wanted s (Ok s) ∙ c.keep_if_found.ensures.as_defined)
 
@@ -25,15 +24,15 @@ check-returns-in-Ok-clause-as_defined t c =
 
 pub check-returns-in-Ok-clause-within : goal.check-returns-in-Ok-clause-within
 check-returns-in-Ok-clause-within t c =
-    kept_within c.args.shapes.now c.narrow.new.shapes c.args.number c.in_ok-narrow-in-And.ensures.keeps c.requires.number
+    still_found c.args.shapes.now c.narrow.new.shapes c.args.number c.in_ok-narrow-in-And.ensures.keeps c.requires.number
 
 pub check_all-loop-test-preserved : goal.check_all-loop-test-preserved
 check_all-loop-test-preserved t c =
     let l = c.loop-test in
     let checked = c.in_ok-check.ensures in
-    let found = checked.as_defined ∙ ap (found_view (expansions c.check.new.shapes)) c.in-Ok.is in (
+    let found = checked.as_defined ∙ ap (found_view c.check.new.shapes) c.in-Ok.is in (
       keeps_trans _ _ _ l.invariant.0 checked.keeps,
-      still_within l.shapes c.check.new.shapes c.args.number checked.keeps l.invariant.1,
-      still_shown l.shapes c.check.new.shapes c.args.number checked.keeps l.invariant.1 ∙ l.invariant.2,
-      found_next _ c.args.tests.now l.test-index c.test-item.result _ (shape_at (expansions l.shapes) c.args.number) c.loop-test-test.true c.test-item.is l.invariant.3 l.invariant.2 _ found,
+      kept_within l.shapes c.check.new.shapes c.args.number checked.keeps l.invariant.1,
+      kept_shape l.shapes c.check.new.shapes c.args.number checked.keeps l.invariant.1 ∙ l.invariant.2,
+      found_next _ c.args.tests.now l.test-index c.test-item.result _ (shape_at l.shapes c.args.number) c.loop-test-test.true c.test-item.is l.invariant.3 l.invariant.2 _ found,
     )

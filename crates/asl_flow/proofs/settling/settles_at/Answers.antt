@@ -2,7 +2,7 @@ use Rattle.std.proofs.Common.{◌≡◌, ◌+◌, [], ◌∷◌, ◌++◌, Some,
 use Rattle.std.proofs.lemmas.Grind.{common_steps}
 use Rattle.std.proofs.lemmas.List.{take-append-drop}
 use Rattle.std.specs.Map.{lookup}
-use Rattle.asl_numbered.specs.Expansion.{expansions, shape_at}
+use Rattle.asl_numbered.specs.Expansion.{shape_at}
 use Rattle.indexmap.proofs.CallerLemmas.{insert_entry-new}
 use Rattle.asl_flow.proofs.Settlings.{same, nothing_more, again_kept, first_kept, otherwise_settled, unsettled}
 use Rattle.asl_flow.proofs.settling.settles_at.Goals.{in-Some+in-Some-copied+else-answer-wanted, in-Some+in-None+in_ok-insert-in-None, in_default}
@@ -18,7 +18,7 @@ returns-in-Some-copied c =
     let there : c.in_ok-question.field-0 ≡ Some (c.in-Some.question, c.in-Some.wanted) = search rules in
     let found : lookup (same c.in-Some.question) l.answers.entries ≡ Some c.in-Some-copied.answer = search rules in
     record {
-      as_defined = otherwise_settled (shape_at (expansions c.args.shapes.now) c.args.number) (take i choices) (take (i + 1) choices) choice l.answers.entries more l.invariant c.in_ok-question.field-0 c.in-Some.question c.in-Some.wanted c.in_ok-question.ensures there choices (drop (i + 1) choices) c.in-Some-copied.answer (sym (take-append-drop (i + 1) choices)) found (λ e. grind (arith, c.if-answer-wanted.true));
+      as_defined = otherwise_settled (shape_at c.args.shapes.now c.args.number) (take i choices) (take (i + 1) choices) choice l.answers.entries more l.invariant c.in_ok-question.field-0 c.in-Some.question c.in-Some.wanted c.in_ok-question.ensures there choices (drop (i + 1) choices) c.in-Some-copied.answer (sym (take-append-drop (i + 1) choices)) found (λ e. grind (arith, c.if-answer-wanted.true));
     }
 
 pub loop-choice-preserved : goal.loop-choice-preserved
@@ -27,7 +27,7 @@ loop-choice-preserved c =
     let i = l.choice-index in
     let choices = c.args.choices.now in
     let choice = c.choice-item.result in
-    let s = shape_at (expansions c.args.shapes.now) c.args.number in
+    let s = shape_at c.args.shapes.now c.args.number in
     let told = c.in_ok-question.field-0 in
     let is = c.in_ok-question.ensures in
     let more : take (i + 1) choices ≡ take i choices ++ choice ∷ [] = grind (arith, common_steps) in
@@ -49,5 +49,5 @@ loop-choice-preserved c =
 
 pub returns : goal.returns
 returns c = record {
-  as_defined = unsettled (shape_at (expansions c.args.shapes.now) c.args.number) c.args.choices.now c.loop-choice.choice-index c.loop-choice.answers.entries c.loop-choice-test.false c.loop-choice.invariant;
+  as_defined = unsettled (shape_at c.args.shapes.now c.args.number) c.args.choices.now c.loop-choice.choice-index c.loop-choice.answers.entries c.loop-choice-test.false c.loop-choice.invariant;
 }

@@ -3,14 +3,13 @@ use Rattle.std.proofs.lemmas.Grind.{common_steps}
 use Rattle.std.specs.List.Sorted.{IsStrictlySortedBy}
 use Rattle.std.specs.Map.{keys_of}
 use Rattle.asl_model.specs.ShapeFlow.{doubts, element_doubts, field_doubts}
-use Rattle.asl_numbered.specs.Expansion.{expansions}
-use Rattle.asl_numbered.proofs.Expansions.{keeps_trans}
+use Rattle.asl_numbered.specs.Laws.{keeps_trans}
 use Rattle.asl_template.proofs.Values.{Entry}
 use Rattle.asl_template.specs.View.{view, elements_view, entries_view}
-use Rattle.asl_flow.specs.Numbers.{Shows}
+use Rattle.asl_numbered.specs.Expansion.{Shows}
 use Rattle.asl_flow.specs.Sources.{input_of, item_of, IsWithin}
 use Rattle.asl_flow.specs.TemplateAnswer.{ArePutDown}
-use Rattle.asl_flow.proofs.Composed.{number_more, field_more, numbers_below, fields_below}
+use Rattle.asl_flow.proofs.Composed.{number_more, field_more}
 use Rattle.asl_flow.proofs.Filled.{of_value, element_put, elements_put, elements_end, field_put, fields_put, fields_end, list_doubts, object_doubts}
 use Rattle.asl_flow.proofs.PutDoubts.{put_kept, on_ok}
 use Rattle.asl_flow.proofs.SourcesKept.{sources_kept, as_before}
@@ -25,8 +24,8 @@ element_shapes-loop-element-preserved t c =
     let element = c.element-item.result in
     let field = c.args.place.field.now in
     let name = c.args.place.name.now in
-    let input = input_of (expansions c.args.shapes.now) c.args.sources in
-    let item = item_of (expansions c.args.shapes.now) c.args.sources in
+    let input = input_of c.args.shapes.now c.args.sources in
+    let item = item_of c.args.shapes.now c.args.sources in
     let grown = c.filled_shape.new.shapes in
     let added = c.filled_shape.new.doubts.items in
     let number = c.in_ok-number.number in
@@ -44,10 +43,10 @@ element_shapes-loop-element-preserved t c =
 pub element_shapes-returns : goal.element_shapes-returns
 element_shapes-returns t c =
     let l = c.loop-element in
-    let input = input_of (expansions c.args.shapes.now) c.args.sources in
-    let item = item_of (expansions c.args.shapes.now) c.args.sources in
+    let input = input_of c.args.shapes.now c.args.sources in
+    let item = item_of c.args.shapes.now c.args.sources in
     record {
-      filled = elements_end input item (expansions l.shapes) c.args.elements.now l.element-index l.numbers.items c.loop-element-test.false l.invariant.shown;
+      filled = elements_end input item l.shapes c.args.elements.now l.element-index l.numbers.items c.loop-element-test.false l.invariant.shown;
       doubted = elements_put input item l.shapes c.args.place.field.now c.args.place.name.now c.args.elements.now l.element-index c.args.doubts.now.items l.doubts.items c.loop-element-test.false l.invariant.put;
       keeps = l.invariant.keeps;
     }
@@ -56,8 +55,8 @@ pub field_shapes-loop-name-preserved : goal.field_shapes-loop-name-preserved
 field_shapes-loop-name-preserved t c =
     let l = c.loop-name in
     let within : IsWithin (length c.args.shapes.now) c.args.sources = search rules in
-    let input = input_of (expansions c.args.shapes.now) c.args.sources in
-    let item = item_of (expansions c.args.shapes.now) c.args.sources in
+    let input = input_of c.args.shapes.now c.args.sources in
+    let item = item_of c.args.shapes.now c.args.sources in
     let field = c.args.field.now in
     let done = l.invariant.done in
     let e : Entry = (c.in-Some.name.now, c.in-Some.template.now) in
@@ -83,10 +82,10 @@ field_shapes-loop-name-preserved t c =
 pub field_shapes-returns : goal.field_shapes-returns
 field_shapes-returns t c =
     let l = c.loop-name in
-    let input = input_of (expansions c.args.shapes.now) c.args.sources in
-    let item = item_of (expansions c.args.shapes.now) c.args.sources in
+    let input = input_of c.args.shapes.now c.args.sources in
+    let item = item_of c.args.shapes.now c.args.sources in
     record {
-      filled = fields_end input item (expansions l.shapes) c.args.fields.now.entries l.invariant.done l.name-iterator l.mentions.entries l.invariant.whole c.in-None.ensures.steps.0 c.iter-name-items.ensures.ordered l.invariant.shown;
+      filled = fields_end input item l.shapes c.args.fields.now.entries l.invariant.done l.name-iterator l.mentions.entries l.invariant.whole c.in-None.ensures.steps.0 c.iter-name-items.ensures.ordered l.invariant.shown;
       doubted = fields_put input item l.shapes c.args.field.now c.args.fields.now.entries l.invariant.done l.name-iterator c.args.doubts.now.items l.doubts.items l.invariant.whole c.in-None.ensures.steps.0 l.invariant.put;
       keeps = l.invariant.keeps;
     }
@@ -96,17 +95,17 @@ element_shapes-returns-in_err-push-clause-keeps t c = keeps_trans _ _ _ c.loop-e
 
 pub filled_shape-closed_list-requires : goal.filled_shape-closed_list-requires
 filled_shape-closed_list-requires t c =
-    record { first = numbers_below c.element_shapes.new.shapes _ c.in_ok-first-in-List.first.items c.in_ok-first-in-List.ensures.filled }
+    record { first = c.in_ok-first-in-List.ensures.filled.within }
 
 pub filled_shape-closed_object-requires : goal.filled_shape-closed_object-requires
 filled_shape-closed_object-requires t c =
-    record { fields = fields_below c.field_shapes.new.shapes _ c.in_ok-mentions-in-Object.mentions.entries c.in_ok-mentions-in-Object.ensures.filled }
+    record { fields = c.in_ok-mentions-in-Object.ensures.filled.within }
 
 pub filled_shape-returns-in_ok-first-in-List-clause-doubted :
     goal.filled_shape-returns-in_ok-first-in-List-clause-doubted
 filled_shape-returns-in_ok-first-in-List-clause-doubted t c =
-    let input = input_of (expansions c.args.shapes.now) c.args.sources in
-    let item = item_of (expansions c.args.shapes.now) c.args.sources in
+    let input = input_of c.args.shapes.now c.args.sources in
+    let item = item_of c.args.shapes.now c.args.sources in
     let field = c.args.place.field.now in
     let name = c.args.place.name.now in
     let listed = sym (list_doubts input item c.args.template.now c.in-List.elements name c.in-List.is) in
@@ -116,8 +115,8 @@ filled_shape-returns-in_ok-first-in-List-clause-doubted t c =
 pub filled_shape-returns-in_ok-mentions-in-Object-clause-doubted :
     goal.filled_shape-returns-in_ok-mentions-in-Object-clause-doubted
 filled_shape-returns-in_ok-mentions-in-Object-clause-doubted t c =
-    let input = input_of (expansions c.args.shapes.now) c.args.sources in
-    let item = item_of (expansions c.args.shapes.now) c.args.sources in
+    let input = input_of c.args.shapes.now c.args.sources in
+    let item = item_of c.args.shapes.now c.args.sources in
     let field = c.args.place.field.now in
     let name = c.args.place.name.now in
     let listed = sym (object_doubts input item c.args.template.now c.in-Object.fields name c.in-Object.is) in

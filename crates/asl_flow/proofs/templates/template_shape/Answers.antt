@@ -1,15 +1,14 @@
 use Rattle.std.proofs.Common.{rules}
-use Rattle.asl_numbered.specs.Expansion.{expansions, shape_at}
+use Rattle.asl_numbered.specs.Expansion.{shape_at}
 use Rattle.asl_shape.specs.View.{view}
 use Rattle.asl_template.specs.View as templates
 use Rattle.asl_flow.specs.Items.{item_view}
-use Rattle.asl_flow.proofs.Numbered.{number_within}
 use Rattle.asl_flow.proofs.templates.template_shape.Goals as goal
 
 pub expand-requires : goal.expand-requires
 expand-requires c =
-    let nodes = c.template_shape_at.new.shapes in
-    record { number = number_within nodes (shape_at (expansions nodes) c.in_ok-number.number) c.in_ok-number.number c.in_ok-number.ensures.number }
+    let table = c.template_shape_at.new.shapes in
+    record { number = c.in_ok-number.ensures.number.within }
 
 pub returns-clause-value : goal.returns-clause-value
 returns-clause-value c =

@@ -1,15 +1,15 @@
 use Rattle.std.proofs.Common.{option_map}
 use Rattle.asl_model.specs.ShapeFlow.{template_shape}
-use Rattle.asl_numbered.specs.Expansion.{expansions, shape_at}
+use Rattle.asl_numbered.specs.Expansion.{shape_at}
+use Rattle.asl_numbered.specs.Laws.{own_number}
 use Rattle.asl_template.specs.View.{view}
 use Rattle.asl_flow.proofs.DoubtfulTemplates.{template_refused}
-use Rattle.asl_flow.proofs.Numbered.{own_number}
 use Rattle.asl_flow.proofs.Refusals.{template_cause, template_told}
 use Rattle.asl_flow.proofs.templates.template_shape_at.Goals as goal
 
 pub refusal_of-requires : goal.refusal_of-requires
 refusal_of-requires c =
-    let table = expansions c.args.shapes.now in
+    let table = c.args.shapes.now in
     let input = shape_at table c.args.input in
     let item = option_map (shape_at table) c.args.item in
     let filled = rw c.in-Err.is at c.in_ok-filled.ensures.filled in
@@ -24,7 +24,7 @@ returns-in-Ok-clause-number c =
 pub returns-in_ok-refusal_of-in-Err-clause-refused :
     goal.returns-in_ok-refusal_of-in-Err-clause-refused
 returns-in_ok-refusal_of-in-Err-clause-refused c =
-    let table = expansions c.args.shapes.now in
+    let table = c.args.shapes.now in
     let input = shape_at table c.args.input in
     let item = option_map (shape_at table) c.args.item in
     let filled = rw c.in-Err.is at c.in_ok-filled.ensures.filled in

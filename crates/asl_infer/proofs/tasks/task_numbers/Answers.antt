@@ -1,7 +1,6 @@
 use Rattle.std.proofs.Common.{◌+◌, length, sym, ap, ◌∙◌}
 use Rattle.std.proofs.lemmas.List.{length_push}
-use Rattle.asl_numbered.specs.Expansion.{expansions}
-use Rattle.asl_numbered.proofs.Expansions.{keeps_trans}
+use Rattle.asl_numbered.specs.Laws.{keeps_trans}
 use Rattle.asl_records.specs.View.{declared_view}
 use Rattle.asl_states.specs.Table.{table_view}
 use Rattle.asl_infer.proofs.Declared.{one_more_task}
@@ -14,5 +13,5 @@ loop-number-preserved c =
     let more = c.in_ok-push.ensures.items in (
       keeps_trans _ _ _ l.invariant.0 c.in_ok-task_of.ensures.keeps,
       ap (λ n. n + 1) l.invariant.1 ∙ sym (ap length more ∙ length_push l.tasks.items task),
-      one_more_task (declared_view c.args.declared.now) (table_view c.args.machine.now).names (expansions l.store) (expansions c.task_of.new.store) l.tasks.items c.push.new.self.items task l.number c.name.result _ c.unwrap_or-name.result l.invariant.1 l.invariant.2 c.in_ok-task_of.ensures.keeps c.name.ensures.name c.unwrap_or-name.ensures c.in_ok-task_of.ensures.task more,
+      one_more_task (declared_view c.args.declared.now) (table_view c.args.machine.now).names l.store c.task_of.new.store l.tasks.items c.push.new.self.items task l.number c.name.result _ c.unwrap_or-name.result l.invariant.1 l.invariant.2 c.in_ok-task_of.ensures.keeps c.name.ensures.name c.unwrap_or-name.ensures c.in_ok-task_of.ensures.task more,
     )

@@ -1,5 +1,5 @@
 use Rattle.std.proofs.Common.{◌≡◌, ◌+◌, ◌*◌, ◌++◌, drop, map, string_bytes}
-use Rattle.asl_numbered.specs.Expansion.{expansions, shapes_at, fields_at}
+use Rattle.asl_numbered.specs.Expansion.{shapes_at, fields_at}
 use Rattle.asl_notation.specs.Notation.{noted, places_noted, fields_noted}
 use Rattle.asl_notation.proofs.noting.+note.Given as goal
 
@@ -35,10 +35,10 @@ decreases-note_field l = 6 * l.limits.depth + 6
 
 abbrev pub invariant-push_places-loop-place : goal.invariant-push_places-loop-place
 invariant-push_places-loop-place l =
-    (map string_bytes l.initial.parts.items ++ places_noted (noted l.limits.depth l.limits.width) l.limits.width (shapes_at (expansions l.shapes) l.places))
-    ≡ (map string_bytes l.parts.items ++ places_noted (noted l.limits.depth l.limits.width) l.left (shapes_at (expansions l.shapes) (drop l.place-index l.places)))
+    (map string_bytes l.initial.parts.items ++ places_noted (noted l.limits.depth l.limits.width) l.limits.width (shapes_at l.shapes l.places))
+    ≡ (map string_bytes l.parts.items ++ places_noted (noted l.limits.depth l.limits.width) l.left (shapes_at l.shapes (drop l.place-index l.places)))
 
 abbrev pub invariant-push_fields-loop-name : goal.invariant-push_fields-loop-name
 invariant-push_fields-loop-name l =
-    (map string_bytes l.initial.parts.items ++ fields_noted (noted l.limits.depth l.limits.width) l.limits.width (fields_at (expansions l.shapes) l.fields.entries))
-    ≡ (map string_bytes l.parts.items ++ fields_noted (noted l.limits.depth l.limits.width) l.left (fields_at (expansions l.shapes) l.name-iterator))
+    (map string_bytes l.initial.parts.items ++ fields_noted (noted l.limits.depth l.limits.width) l.limits.width (fields_at l.shapes l.fields.entries))
+    ≡ (map string_bytes l.parts.items ++ fields_noted (noted l.limits.depth l.limits.width) l.left (fields_at l.shapes l.name-iterator))

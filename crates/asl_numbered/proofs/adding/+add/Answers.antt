@@ -11,9 +11,10 @@ use Rattle.asl_shape.proofs.Spellings.{Mention}
 use Rattle.asl_numbered.specs.declared.node.Node.TheVariants.{List as Elements, Object}
 use Rattle.asl_numbered.specs.Expansion.{expansions, RefersBelow}
 use Rattle.asl_numbered.specs.TakenApart.{HasArraysAt, HasObjectsAt}
-use Rattle.asl_numbered.proofs.Expansions.{as_many, keeps_trans}
+use Rattle.asl_numbered.proofs.Expansions.{as_many}
 use Rattle.asl_numbered.proofs.Growing.{number_step, numbers_end, field_step, numbered_list_refers, numbered_object_refers, arrays_added, objects_added}
 use Rattle.asl_numbered.proofs.adding.+add.Goals as goal
+use Rattle.asl_numbered.specs.Laws.{keeps_trans}
 
 pub add_all-loop-shape-preserved : goal.add_all-loop-shape-preserved
 add_all-loop-shape-preserved t c =

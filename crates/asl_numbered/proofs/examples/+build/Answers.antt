@@ -8,9 +8,9 @@ use Rattle.asl_numbered.specs.Examples.{without}
 use Rattle.asl_numbered.specs.Expansion.{expansions, shape_at}
 use Rattle.asl_numbered.specs.TakenApart.{AreArraysAt, AreObjectsAt, AreArraysIfAny, AreObjectsIfAny}
 use Rattle.asl_numbered.proofs.Built.{array_built, needed_put, needed_not, needed_omitted}
-use Rattle.asl_numbered.proofs.Expansions.{below-wider, below_next_field}
 use Rattle.asl_numbered.proofs.examples.+build.Goals as goal
 use Rattle.asl_numbered.proofs.examples.+build.Goals.{build_needed-else-field-via-then-field+else-not-is_omitted, build_needed-else-field-via-else-field}
+use Rattle.asl_numbered.specs.Laws.{below-wider, below_next_field}
 
 pub build_kinds-push_examples-requires : goal.build_kinds-push_examples-requires
 build_kinds-push_examples-requires t c =

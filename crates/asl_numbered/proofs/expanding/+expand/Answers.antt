@@ -8,9 +8,9 @@ use Rattle.asl_shape.proofs.Sights.{inserted_proper, pushed_proper}
 use Rattle.asl_numbered.specs.declared.node.NodeField.{NodeField}
 use Rattle.asl_numbered.specs.Expansion.{expansions}
 use Rattle.asl_numbered.specs.TakenApart.{AreArraysAt, AreObjectsAt, AreArraysIfAny, AreObjectsIfAny}
-use Rattle.asl_numbered.proofs.Expansions.{below-wider, below_next, below_next_field}
 use Rattle.asl_numbered.proofs.Growing.{expanded_push, expanded_step}
 use Rattle.asl_numbered.proofs.expanding.+expand.Goals as goal
+use Rattle.asl_numbered.specs.Laws.{below-wider, below_next, below_next_field}
 
 pub expand_fields-loop-name-preserved : goal.expand_fields-loop-name-preserved
 expand_fields-loop-name-preserved t c =

@@ -1,8 +1,8 @@
 use Rattle.std.proofs.Common.{◌∙◌, sym}
 use Rattle.asl_numbered.specs.Expansion.{expansions}
-use Rattle.asl_numbered.proofs.Expansions.{below-wider}
 use Rattle.asl_numbered.proofs.Seeking.{forbidden_last}
 use Rattle.asl_numbered.proofs.finding.find_fields.Goals as goal
+use Rattle.asl_numbered.specs.Laws.{below-wider}
 
 pub find_mentioned-requires-clause-outer : goal.find_mentioned-requires-clause-outer
 find_mentioned-requires-clause-outer c = below-wider _ _ _ c.requires.outer.within c.requires.outer.fields

@@ -2,10 +2,10 @@ use Rattle.std.proofs.Common.{String, Global, refl}
 use Rattle.asl_numbered.specs.declared.node.NodeField.{NodeField}
 use Rattle.asl_numbered.specs.Expansion.{expansions, fields_at}
 use Rattle.asl_numbered.specs.Outside.{needed_of}
-use Rattle.asl_numbered.proofs.Expansions.{below_next_field}
 use Rattle.asl_numbered.proofs.Seeking.{alone_found, alone_passed, alone_shared, alone_never}
 use Rattle.asl_numbered.proofs.finding.find_forbidden.Goals as goal
 use Rattle.asl_numbered.proofs.finding.find_forbidden.Goals.{else-not-contains_key-via-then-not-contains_key+else-is_inhabited, else-not-contains_key-via-else-not-contains_key}
+use Rattle.asl_numbered.specs.Laws.{below_next_field}
 
 pub returns-then-is_inhabited : goal.returns-then-is_inhabited
 returns-then-is_inhabited c =

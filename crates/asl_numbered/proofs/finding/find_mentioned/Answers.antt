@@ -6,9 +6,9 @@ use Rattle.asl_numbered.specs.declared.node.NodeField.{NodeField}
 use Rattle.asl_numbered.specs.Expansion.{expansions, shape_at, fields_at}
 use Rattle.asl_numbered.specs.Outside.{needed_of, mentioned_fields}
 use Rattle.asl_numbered.proofs.Comparisons.{found-below}
-use Rattle.asl_numbered.proofs.Expansions.{below_next_field}
 use Rattle.asl_numbered.proofs.Seeking.{field_found, field_passed, mentioned_number, mentioned_none, mentioned_inside}
 use Rattle.asl_numbered.proofs.finding.find_mentioned.Goals as goal
+use Rattle.asl_numbered.specs.Laws.{below_next_field}
 
 pub is_inside-requires-clause-sought : goal.is_inside-requires-clause-sought
 is_inside-requires-clause-sought c =

@@ -3,10 +3,10 @@ use Rattle.std.proofs.lemmas.Grind.{common_steps}
 use Rattle.std.specs.Slice.Iter.{iter_rest}
 use Rattle.asl_numbered.specs.Expansion.{expansions, shape_at, AreBelow}
 use Rattle.asl_numbered.specs.Outside.{first_shape, found_elements}
-use Rattle.asl_numbered.proofs.Expansions.{below-wider, below-take, below-drop, below-append, below_next}
 use Rattle.asl_numbered.proofs.Parts.{taken_next, part-below}
 use Rattle.asl_numbered.proofs.Seeking.{places_begun, place_found, place_passed, further_end, part_found, nothing_found, inside_none, bounds-fall}
 use Rattle.asl_numbered.proofs.finding.find_place.Goals as goal
+use Rattle.asl_numbered.specs.Laws.{below-append, below-drop, below-take, below-wider, below_next}
 
 pub loop-index-init : goal.loop-index-init
 loop-index-init c =

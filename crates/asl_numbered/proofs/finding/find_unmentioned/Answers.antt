@@ -4,10 +4,10 @@ use Rattle.asl_numbered.specs.declared.node.NodeField.{NodeField}
 use Rattle.asl_numbered.specs.Expansion.{expansions, shape_at, fields_at}
 use Rattle.asl_numbered.specs.Outside.{needed_of, unmentioned_fields}
 use Rattle.asl_numbered.proofs.Comparisons.{any_sub}
-use Rattle.asl_numbered.proofs.Expansions.{below_next_field}
 use Rattle.asl_numbered.proofs.Seeking.{field_found, field_passed, unmentioned_any, unmentioned_shut, unmentioned_not, unmentioned_full}
 use Rattle.asl_numbered.proofs.finding.find_unmentioned.Goals as goal
 use Rattle.asl_numbered.proofs.finding.find_unmentioned.Goals.{else-inner-via-then-inner+then-not-contains_key+else-not-takes_all, else-inner-via-then-inner+else-not-contains_key, else-inner-via-else-inner}
+use Rattle.asl_numbered.specs.Laws.{below_next_field}
 
 pub returns-then-not-takes_all : goal.returns-then-not-takes_all
 returns-then-not-takes_all c =

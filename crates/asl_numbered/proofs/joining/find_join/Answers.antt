@@ -1,6 +1,6 @@
-use Rattle.asl_numbered.proofs.Expansions.{keeps_trans}
 use Rattle.asl_numbered.proofs.Moving.{task_within, task_fed, left_moved, left_less}
 use Rattle.asl_numbered.proofs.joining.find_join.Goals as goal
+use Rattle.asl_numbered.specs.Laws.{keeps_trans}
 
 pub perform-requires-clause-within : goal.perform-requires-clause-within
 perform-requires-clause-within c = task_within _ _ _ c.pop.new.self.items c.in-Some.task _ c.in-Some.ensures.items c.loop-task.invariant.2

@@ -3,10 +3,10 @@ use Rattle.std.proofs.lemmas.Grind.{common_steps}
 use Rattle.asl_numbered.specs.Expansion.{expansions, shape_at}
 use Rattle.asl_numbered.specs.TakenApart.{kinds_over}
 use Rattle.asl_numbered.proofs.Ascending.{next_shape}
-use Rattle.asl_numbered.proofs.Expansions.{below_next}
 use Rattle.asl_numbered.proofs.Tables.{none_past}
 use Rattle.asl_numbered.proofs.Taking.{both_at, taken_next}
 use Rattle.asl_numbered.proofs.kinds.+take_apart.Goals as goal
+use Rattle.asl_numbered.specs.Laws.{below_next}
 
 pub take_apart-returns-in-None-clause-shown : goal.take_apart-returns-in-None-clause-shown
 take_apart-returns-in-None-clause-shown t c =

@@ -2,9 +2,9 @@ use Rattle.std.proofs.Common.{[], ◌++◌, option_to_list, sym, subst}
 use Rattle.asl_model.specs.Shape.{BooleanShape, IntegerShape, NullShape, StringShape}
 use Rattle.asl_numbered.specs.Expansion.{expansions}
 use Rattle.asl_numbered.specs.TakenApart.{arrays_at, objects_at, arrays_part, objects_part, part_if, AreListed}
-use Rattle.asl_numbered.proofs.Expansions.{keeps_trans}
 use Rattle.asl_numbered.proofs.Taking.{listed_none, listed_more, listed_kept, all_listed}
 use Rattle.asl_numbered.proofs.kinds.put_parts.Goals as goal
+use Rattle.asl_numbered.specs.Laws.{keeps_trans}
 
 pub returns-clause-listed : goal.returns-clause-listed
 returns-clause-listed c =

@@ -1,9 +1,10 @@
 use Rattle.std.proofs.Common.{length, subst, arith}
 use Rattle.asl_numbered.specs.Expansion.{expansions, numbers_in, AreBelow}
 use Rattle.asl_numbered.specs.Outside.{numbers_of}
-use Rattle.asl_numbered.proofs.Expansions.{as_many, below-front, below-behind}
+use Rattle.asl_numbered.proofs.Expansions.{as_many}
 use Rattle.asl_numbered.proofs.Stepping.{below_len}
 use Rattle.asl_numbered.proofs.outside.build_step.Goals as goal
+use Rattle.asl_numbered.specs.Laws.{below-behind, below-front}
 
 pub push_examples-requires-clause-within : goal.push_examples-requires-clause-within
 push_examples-requires-clause-within c = omega (arith, c.len.ensures, as_many c.args.table.now)

@@ -16,9 +16,10 @@ use Rattle.asl_numbered.specs.declared.node.NodeField.{NodeField}
 use Rattle.asl_numbered.proofs.Appending.{names}
 use Rattle.asl_numbered.specs.Reading.{IsRead, IsReadRest, AreObjectsRead, TellsOneOf}
 use Rattle.asl_numbered.specs.References.{shapes_given, numbers_given, list_inside, object_inside, each_of, values_of, TellsOf}
-use Rattle.asl_numbered.proofs.Expansions.{as_many, keeps_same, keeps_trans}
+use Rattle.asl_numbered.proofs.Expansions.{as_many}
 use Rattle.asl_numbered.proofs.Readings.{given_kept, given_same, reference_read, reference_told, level_told, over_answer, over_refusal, one_told, one_left, one_right, element_there, none_read, number_read, list_refers, list_read, kinds_read, no_list_read, no_object_read, no_rest_read, rest_answer, member_there, no_fields_read, field_read, object_refers, object_read}
 use Rattle.asl_numbered.proofs.reading.+read.Goals as goal
+use Rattle.asl_numbered.specs.Laws.{keeps_same, keeps_trans}
 
 pub read-returns-in-Some-Some-clause-number : goal.read-returns-in-Some-Some-clause-number
 read-returns-in-Some-Some-clause-number t c =

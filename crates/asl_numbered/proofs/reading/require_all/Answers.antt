@@ -2,9 +2,10 @@ use Rattle.std.proofs.Common.{◌≡◌, ◌∷◌, ◌+◌, ap, drop, string_by
 use Rattle.std.proofs.lemmas.Grind.{common_steps}
 use Rattle.asl_shape.specs.LevelView.{texts}
 use Rattle.asl_numbered.specs.Expansion.{expansions, numbers_in, AreBelow}
-use Rattle.asl_numbered.proofs.Expansions.{as_many, keeps_same, keeps_trans}
+use Rattle.asl_numbered.proofs.Expansions.{as_many}
 use Rattle.asl_numbered.proofs.Marking.{marks_start, marks_step}
 use Rattle.asl_numbered.proofs.reading.require_all.Goals as goal
+use Rattle.asl_numbered.specs.Laws.{keeps_same, keeps_trans}
 
 pub loop-name-init : goal.loop-name-init
 loop-name-init c = (

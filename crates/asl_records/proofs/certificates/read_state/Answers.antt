@@ -1,8 +1,7 @@
 use Rattle.std.proofs.Common.{codes, true, false, refl, sym, ap, ◌∙◌, subst}
 use Rattle.serde_json.specs.View.{view, members_view}
 use Rattle.asl_model.specs.Records.{state_rows}
-use Rattle.asl_numbered.specs.Expansion.{expansions}
-use Rattle.asl_numbered.proofs.Expansions.{keeps_trans}
+use Rattle.asl_numbered.specs.Laws.{keeps_trans}
 use Rattle.asl_records.specs.Numbering.{AreStateOf}
 use Rattle.asl_records.specs.Parts.{field_complaints, shape_row, shapes_row, value_in}
 use Rattle.asl_records.specs.declared.records.StateNumbers.{StateNumbers}
@@ -20,13 +19,13 @@ required_number-requires-2-clause-listed c = still_there c.args.shapes.now c.req
 
 pub optional_numbers-requires-clause-listed : goal.optional_numbers-requires-clause-listed
 optional_numbers-requires-clause-listed c =
-    let twice = keeps_trans (expansions c.args.shapes.now) (expansions c.required_number.new.shapes) (expansions c.required_number-2.new.shapes) c.in_ok-required_number.ensures.keeps c.in_ok-required_number-2.ensures.keeps in
+    let twice = keeps_trans c.args.shapes.now c.required_number.new.shapes c.required_number-2.new.shapes c.in_ok-required_number.ensures.keeps c.in_ok-required_number-2.ensures.keeps in
     still_there c.args.shapes.now c.required_number-2.new.shapes twice c.args.reader.listed c.requires.listed
 
 pub optional_number-requires-clause-listed : goal.optional_number-requires-clause-listed
 optional_number-requires-clause-listed c =
-    let twice = keeps_trans (expansions c.args.shapes.now) (expansions c.required_number.new.shapes) (expansions c.required_number-2.new.shapes) c.in_ok-required_number.ensures.keeps c.in_ok-required_number-2.ensures.keeps in
-    let thrice = keeps_trans (expansions c.args.shapes.now) (expansions c.required_number-2.new.shapes) (expansions c.optional_numbers.new.shapes) twice c.in_ok-optional_numbers.ensures.keeps in
+    let twice = keeps_trans c.args.shapes.now c.required_number.new.shapes c.required_number-2.new.shapes c.in_ok-required_number.ensures.keeps c.in_ok-required_number-2.ensures.keeps in
+    let thrice = keeps_trans c.args.shapes.now c.required_number-2.new.shapes c.optional_numbers.new.shapes twice c.in_ok-optional_numbers.ensures.keeps in
     still_there c.args.shapes.now c.optional_numbers.new.shapes thrice c.args.reader.listed c.requires.listed
 
 -- ---- what is told
@@ -64,7 +63,7 @@ returns-in_err-optional_numbers-clause-refused c =
     let name = c.args.name.now in
     let f = c.in_err-optional_numbers.field-0.0 in
     let there = c.required_number-2.ensures.taken.others (codes "branches") refl ∙ c.required_number.ensures.taken.others (codes "branches") refl in
-    let twice = keeps_trans (expansions c.args.shapes.now) (expansions c.required_number.new.shapes) (expansions c.required_number-2.new.shapes) c.in_ok-required_number.ensures.keeps c.in_ok-required_number-2.ensures.keeps in
+    let twice = keeps_trans c.args.shapes.now c.required_number.new.shapes c.required_number-2.new.shapes c.in_ok-required_number.ensures.keeps c.in_ok-required_number-2.ensures.keeps in
     handed_on c.from_residual-in_err-optional_numbers.result f _ c.from_residual-in_err-optional_numbers.ensures.1
     (record {
       each = λ reading means.
@@ -78,8 +77,8 @@ returns-in_err-optional_number-clause-refused c =
     let name = c.args.name.now in
     let f = c.in_err-optional_number.field-0.0 in
     let there = c.optional_numbers.ensures.taken.others (codes "item") refl ∙ c.required_number-2.ensures.taken.others (codes "item") refl ∙ c.required_number.ensures.taken.others (codes "item") refl in
-    let twice = keeps_trans (expansions c.args.shapes.now) (expansions c.required_number.new.shapes) (expansions c.required_number-2.new.shapes) c.in_ok-required_number.ensures.keeps c.in_ok-required_number-2.ensures.keeps in
-    let thrice = keeps_trans (expansions c.args.shapes.now) (expansions c.required_number-2.new.shapes) (expansions c.optional_numbers.new.shapes) twice c.in_ok-optional_numbers.ensures.keeps in
+    let twice = keeps_trans c.args.shapes.now c.required_number.new.shapes c.required_number-2.new.shapes c.in_ok-required_number.ensures.keeps c.in_ok-required_number-2.ensures.keeps in
+    let thrice = keeps_trans c.args.shapes.now c.required_number-2.new.shapes c.optional_numbers.new.shapes twice c.in_ok-optional_numbers.ensures.keeps in
     handed_on c.from_residual-in_err-optional_number.result f _ c.from_residual-in_err-optional_number.ensures.1
     (record {
       each = λ reading means.
@@ -96,8 +95,8 @@ returns-clause-right c =
     let second = c.required_number.ensures.taken.others (codes "output") refl in
     let third = c.required_number-2.ensures.taken.others (codes "branches") refl ∙ c.required_number.ensures.taken.others (codes "branches") refl in
     let fourth = c.optional_numbers.ensures.taken.others (codes "item") refl ∙ c.required_number-2.ensures.taken.others (codes "item") refl ∙ c.required_number.ensures.taken.others (codes "item") refl in
-    let twice = keeps_trans (expansions c.args.shapes.now) (expansions c.required_number.new.shapes) (expansions c.required_number-2.new.shapes) c.in_ok-required_number.ensures.keeps c.in_ok-required_number-2.ensures.keeps in
-    let thrice = keeps_trans (expansions c.args.shapes.now) (expansions c.required_number-2.new.shapes) (expansions c.optional_numbers.new.shapes) twice c.in_ok-optional_numbers.ensures.keeps in
+    let twice = keeps_trans c.args.shapes.now c.required_number.new.shapes c.required_number-2.new.shapes c.in_ok-required_number.ensures.keeps c.in_ok-required_number-2.ensures.keeps in
+    let thrice = keeps_trans c.args.shapes.now c.required_number-2.new.shapes c.optional_numbers.new.shapes twice c.in_ok-optional_numbers.ensures.keeps in
     record {
       each = λ reading means.
           let then = still_meant c.args.shapes.now c.required_number.new.shapes c.in_ok-required_number.ensures.keeps c.args.reader.listed reading c.requires.listed means in
@@ -119,8 +118,8 @@ returns-clause-numbers c =
     let branches = c.required_number-2.ensures.taken.others (codes "branches") refl ∙ c.required_number.ensures.taken.others (codes "branches") refl in
     let item = c.optional_numbers.ensures.taken.others (codes "item") refl ∙ c.required_number-2.ensures.taken.others (codes "item") refl ∙ c.required_number.ensures.taken.others (codes "item") refl in
     let numbers : StateNumbers = record { input = c.in_ok-required_number.field-0; output = c.in_ok-required_number-2.field-0; branches = c.in_ok-optional_numbers.field-0; item = c.in_ok-optional_number.field-0 } in
-    let twice = keeps_trans (expansions c.args.shapes.now) (expansions c.required_number.new.shapes) (expansions c.required_number-2.new.shapes) c.in_ok-required_number.ensures.keeps c.in_ok-required_number-2.ensures.keeps in
-    let thrice = keeps_trans (expansions c.args.shapes.now) (expansions c.required_number-2.new.shapes) (expansions c.optional_numbers.new.shapes) twice c.in_ok-optional_numbers.ensures.keeps in
+    let twice = keeps_trans c.args.shapes.now c.required_number.new.shapes c.required_number-2.new.shapes c.in_ok-required_number.ensures.keeps c.in_ok-required_number-2.ensures.keeps in
+    let thrice = keeps_trans c.args.shapes.now c.required_number-2.new.shapes c.optional_numbers.new.shapes twice c.in_ok-optional_numbers.ensures.keeps in
     record {
       each = λ reading means.
           let then = still_meant c.args.shapes.now c.required_number.new.shapes c.in_ok-required_number.ensures.keeps c.args.reader.listed reading c.requires.listed means in

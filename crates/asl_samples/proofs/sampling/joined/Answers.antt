@@ -1,8 +1,8 @@
 use Rattle.std.proofs.Common.{◌≡◌, ◌+◌, [], ◌∷◌, map, drop, sym, ap, ◌∙◌, arith}
 use Rattle.std.proofs.lemmas.Grind.{common_steps}
 use Rattle.asl_tree.specs.View.{view}
-use Rattle.asl_numbered.specs.Expansion.{expansions, shape_at}
-use Rattle.asl_flow.proofs.Numbered.{number_shows}
+use Rattle.asl_numbered.specs.Expansion.{shape_at}
+use Rattle.asl_numbered.specs.Laws.{number_shows}
 use Rattle.asl_samples.specs.Samples.{joined_with}
 use Rattle.asl_samples.proofs.Joined.{joined-more}
 use Rattle.asl_samples.proofs.sampling.joined.Goals as goal
@@ -20,7 +20,7 @@ loop-sample-preserved c =
     let item = c.sample-item.result in
     let split : drop i others ≡ item ∷ drop (i + 1) others = grind (arith, common_steps) in
     let next = c.in_ok-number-2.ensures in
-    (joined-more _ (shape_at (expansions l.shapes) l.number) _ (drop i others) (drop (i + 1) others) item l.invariant.0 split next.same, next.within)
+    (joined-more _ (shape_at l.shapes l.number) _ (drop i others) (drop (i + 1) others) item l.invariant.0 split next.same, next.within)
 
 pub returns : goal.returns
 returns c =
@@ -28,5 +28,5 @@ returns c =
     let none : drop l.sample-index c.args.others.now ≡ [] = grind (arith, common_steps) in
     record {
       within = l.invariant.1;
-      same = sym (l.invariant.0 ∙ ap (λ ts. joined_with (shape_at (expansions l.shapes) l.number) (map view ts)) none);
+      same = sym (l.invariant.0 ∙ ap (λ ts. joined_with (shape_at l.shapes l.number) (map view ts)) none);
     }

@@ -3,7 +3,7 @@ use Rattle.json.specs.Token.{begin_object}
 use Rattle.asl_model.specs.Certificate.{Certificate}
 use Rattle.asl_model.specs.Tree.{Integer}
 use Rattle.asl_model.specs.Written.{version_of}
-use Rattle.asl_numbered.specs.Expansion.{expansions, shape_at}
+use Rattle.asl_numbered.specs.Expansion.{shape_at}
 use Rattle.asl_records.specs.Numbered.{numbered_entries}
 use Rattle.asl_records.specs.WritingNumbered.{table_of}
 use Rattle.asl_tree.specs.Written.{tree_tokens, ReadsBack}
@@ -22,14 +22,14 @@ returns-clause-reads_back c =
     let output = subst (λ s. ReadsBack (tree_at s certificate.output)) one c.in_ok-write.ensures.reads_back in
     let read_back = subst (λ s. StatesReadBack s entries) two states.read_back in
     let whole = certificate_back shapes certificate.output entries output c.in_ok-write_shapes.ensures.read_back states.in_order read_back in
-    subst (λ table. ReadsBack (certificate_tree shapes (record { output = shape_at table certificate.output; states = numbered_entries table entries }))) (ap expansions c.requires.table) whole
+    subst (λ table. ReadsBack (certificate_tree shapes (record { output = shape_at table certificate.output; states = numbered_entries table entries }))) c.requires.table whole
 
 pub returns-clause-tokens : goal.returns-clause-tokens
 returns-clause-tokens c =
     let certificate = c.args.certificate.now in
     let shapes = c.args.shapes in
     let entries = certificate.states.entries in
-    let same = ap expansions c.requires.table in
+    let same = c.requires.table in
     let view : Certificate = record { output = shape_at (table_of shapes) certificate.output; states = numbered_entries (table_of shapes) entries } in
     let one = c.new-spellings.ensures.shapes in
     let two = c.in_ok-write.ensures.kept.shapes ∙ one in

@@ -1,8 +1,7 @@
 use Rattle.std.proofs.Common.{IfOk, Result, Ok, Err, ap, ◌∙◌, subst}
 use Rattle.std.specs.List.{Contains}
 use Rattle.std.proofs.lemmas.Result.{IfOk-weaker}
-use Rattle.asl_numbered.specs.Expansion.{expansions}
-use Rattle.asl_numbered.proofs.Expansions.{keeps_trans}
+use Rattle.asl_numbered.specs.Laws.{keeps_trans}
 use Rattle.asl_records.specs.View.{declared_view}
 use Rattle.asl_check.specs.Listing.{rules_view}
 use Rattle.asl_check.specs.Numbers.{certificate_of}
@@ -17,15 +16,15 @@ of_two (Err e) f p q = tt
 
 pub returns-clause-listed : goal.returns-clause-listed
 returns-clause-listed c =
-    IfOk-weaker c.tell_each.result _ _ (λ findings told. told ∙ (ap (rules_view (expansions c.list_all.new.shapes)) c.deref.ensures.value ∙ c.in_ok-rules.ensures.listed)) c.tell_each.ensures.told
+    IfOk-weaker c.tell_each.result _ _ (λ findings told. told ∙ (ap (rules_view c.list_all.new.shapes) c.deref.ensures.value ∙ c.in_ok-rules.ensures.listed)) c.tell_each.ensures.told
 
 -- each is listed, so it stands in every machine that the table shows
 pub returns-clause-exactly : goal.returns-clause-exactly
 returns-clause-exactly c =
     let checker = c.args.self.now in
     let declared = declared_view checker.declared.now in
-    let certificate = certificate_of (expansions c.args.shapes.now) checker in
-    let listed = ap (rules_view (expansions c.list_all.new.shapes)) c.deref.ensures.value ∙ c.in_ok-rules.ensures.listed in
+    let certificate = certificate_of c.args.shapes.now checker in
+    let listed = ap (rules_view c.list_all.new.shapes) c.deref.ensures.value ∙ c.in_ok-rules.ensures.listed in
     of_two c.tell_each.result (λ all told located. λ m shows. exactly all.items (λ f among. c.findings_are_exactly_the_broken_rules.ensures.shown m declared certificate f (each_stands checker.machine.now m shows declared certificate f (subst (λ rules. Contains rules f) (told ∙ listed) among))) located) c.tell_each.ensures.told c.tell_each.ensures.located
 
 pub returns-clause-keeps : goal.returns-clause-keeps

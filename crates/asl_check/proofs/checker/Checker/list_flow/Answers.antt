@@ -1,7 +1,6 @@
 use Rattle.std.proofs.Common.{List, Some, None, sym, ap, subst}
 use Rattle.std.specs.Prelude.{OnOk}
 use Rattle.asl_model.specs.Finding.{Breach, flow_breaches, found_at, surrounded_by, where_certified}
-use Rattle.asl_numbered.specs.Expansion.{expansions}
 use Rattle.asl_states.specs.Machine.{kind_view, scope_view, settings_view}
 use Rattle.asl_states.specs.Table.{table_view}
 use Rattle.asl_records.specs.View.{declared_view}
@@ -20,16 +19,16 @@ pub returns-in-Some-clause-adds : goal.returns-in-Some-clause-adds
 returns-in-Some-clause-adds c =
     let checker = c.args.self.now in
     let rows = table_view checker.machine.now in
-    let table = expansions c.args.shapes.now in
+    let table = c.args.shapes.now in
     let row = c.args.row.now in
     let rules = where_certified (λ own. flow_breaches (surrounded_by (declared_view checker.declared.now) (inputs_in rows (certificate_of table checker)) (end_in rows (certificate_of table checker) (scope_view row.scope.now)) row.name.now own) (settings_view row.state.now.settings) (kind_view row.state.now.kind)) in
-    subst (λ (breaches : List Breach). OnOk c.list_walk.result (Adds (expansions c.list_walk.new.shapes) c.args.rules.now.items c.list_walk.new.rules.items (found_at row.name.now breaches))) (ap rules (sym (certified_there table checker row.name.now (Some c.in-Some.entry.now) c.in-Some.ensures.value))) c.list_walk.ensures.adds
+    subst (λ (breaches : List Breach). OnOk c.list_walk.result (Adds c.list_walk.new.shapes c.args.rules.now.items c.list_walk.new.rules.items (found_at row.name.now breaches))) (ap rules (sym (certified_there table checker row.name.now (Some c.in-Some.entry.now) c.in-Some.ensures.value))) c.list_walk.ensures.adds
 
 pub returns-in-None-clause-adds : goal.returns-in-None-clause-adds
 returns-in-None-clause-adds c =
     let checker = c.args.self.now in
     let rows = table_view checker.machine.now in
-    let table = expansions c.args.shapes.now in
+    let table = c.args.shapes.now in
     let row = c.args.row.now in
     let rules = where_certified (λ own. flow_breaches (surrounded_by (declared_view checker.declared.now) (inputs_in rows (certificate_of table checker)) (end_in rows (certificate_of table checker) (scope_view row.scope.now)) row.name.now own) (settings_view row.state.now.settings) (kind_view row.state.now.kind)) in
     subst (λ entry. Adds table c.args.rules.now.items c.args.rules.now.items (found_at row.name.now (rules entry))) (sym (certified_there table checker row.name.now None c.in-None.ensures.value)) (adds_none table c.args.rules.now.items)

@@ -1,8 +1,8 @@
 use Rattle.std.proofs.Common.{◌<◌, ◌≤◌, length, subst}
 use Rattle.asl_model.specs.Certificate.{Certificate}
 use Rattle.asl_model.specs.Finding.{found_at}
-use Rattle.asl_numbered.specs.Expansion.{expansions, Keeps}
-use Rattle.asl_numbered.proofs.Expansions.{keeps_same, keeps_trans}
+use Rattle.asl_numbered.specs.Expansion.{Keeps}
+use Rattle.asl_numbered.specs.Laws.{keeps_same, keeps_trans}
 use Rattle.asl_states.specs.Table.{table_view}
 use Rattle.asl_records.specs.View.{declared_view}
 use Rattle.asl_check.specs.Checking.{row_view}
@@ -18,7 +18,7 @@ pub loop-number-init : goal.loop-number-init
 loop-number-init c =
     let checker = c.args.self.now in
     let table = table_view checker.machine.now in
-    let shapes = expansions c.args.shapes.now in
+    let shapes = c.args.shapes.now in
     let rules = flow_rules table (declared_view checker.declared.now) (certificate_of shapes checker) in
     record { keeps = keeps_same shapes; left = all_rows (λ i. found_in rules (row_at table i)) (length table.states) shapes c.args.rules.now.items }
 
@@ -31,16 +31,16 @@ loop-number-preserved c =
     let table = table_view checker.machine.now in
     let a = c.args.shapes.now in
     let l = c.loop-number in
-    let rules = flow_rules table (declared_view checker.declared.now) (certificate_of (expansions a) checker) in
+    let rules = flow_rules table (declared_view checker.declared.now) (certificate_of a checker) in
     let row = row_at table l.number in
     let same = certificate_kept a l.shapes l.invariant.keeps checker c.requires.within in
-    let added : Adds (expansions c.match-row_of.shapes) l.rules.items c.match-row_of.rules.items (found_in rules row) = elim c.match-row_of.branch [
-      | in-Some+in_ok-list_flow w ↦ rw (w.rules-is, w.shapes-is) (row_added (expansions w.list_flow.new.shapes) rules (row_view w.in-Some.row) row _ _ w.in-Some.ensures.row (subst (λ (certificate : Certificate). Adds (expansions w.list_flow.new.shapes) l.rules.items w.list_flow.new.rules.items (found_at w.in-Some.row.name.now (flow_rules table (declared_view checker.declared.now) certificate (row_view w.in-Some.row)))) same w.in_ok-list_flow.ensures.adds))
-      | in_default w ↦ rw (w.rules-is, w.shapes-is) (no_row (expansions l.shapes) rules row _ w.in_default.ensures.row)
+    let added : Adds c.match-row_of.shapes l.rules.items c.match-row_of.rules.items (found_in rules row) = elim c.match-row_of.branch [
+      | in-Some+in_ok-list_flow w ↦ rw (w.rules-is, w.shapes-is) (row_added w.list_flow.new.shapes rules (row_view w.in-Some.row) row _ _ w.in-Some.ensures.row (subst (λ (certificate : Certificate). Adds w.list_flow.new.shapes l.rules.items w.list_flow.new.rules.items (found_at w.in-Some.row.name.now (flow_rules table (declared_view checker.declared.now) certificate (row_view w.in-Some.row)))) same w.in_ok-list_flow.ensures.adds))
+      | in_default w ↦ rw (w.rules-is, w.shapes-is) (no_row l.shapes rules row _ w.in_default.ensures.row)
     ] in
-    let grown : Keeps (expansions l.shapes) (expansions c.match-row_of.shapes) = elim c.match-row_of.branch [
+    let grown : Keeps l.shapes c.match-row_of.shapes = elim c.match-row_of.branch [
       | in-Some+in_ok-list_flow w ↦ rw w.shapes-is w.in_ok-list_flow.ensures.keeps
-      | in_default w ↦ rw w.shapes-is (keeps_same (expansions l.shapes))
+      | in_default w ↦ rw w.shapes-is (keeps_same l.shapes)
     ] in
     record {
       keeps = keeps_trans _ _ _ l.invariant.keeps grown;
@@ -51,5 +51,5 @@ pub returns-clause-adds : goal.returns-clause-adds
 returns-clause-adds c =
     let checker = c.args.self.now in
     let table = table_view checker.machine.now in
-    let rules = flow_rules table (declared_view checker.declared.now) (certificate_of (expansions c.args.shapes.now) checker) in
+    let rules = flow_rules table (declared_view checker.declared.now) (certificate_of c.args.shapes.now checker) in
     rows_added (λ i. found_in rules (row_at table i)) (length table.states) _ c.loop-number.number _ _ _ (subst (λ n. n ≤ c.loop-number.number) c.states-number-end.ensures.number c.loop-number-test.false) c.loop-number.invariant.left

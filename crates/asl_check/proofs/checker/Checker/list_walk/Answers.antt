@@ -1,7 +1,7 @@
 use Rattle.std.proofs.Common.{◌≡◌, refl, ap, ◌∙◌}
 use Rattle.asl_model.specs.Edges.{destination_shapes}
 use Rattle.asl_model.specs.Finding.{surrounded_by}
-use Rattle.asl_numbered.specs.Expansion.{expansions, shape_at}
+use Rattle.asl_numbered.specs.Expansion.{shape_at}
 use Rattle.asl_state_edges.specs.Entry.{entry_view}
 use Rattle.asl_state_edges.specs.declared.found.Entry.{Entry}
 use Rattle.asl_state_edges.specs.View.{steps_of}
@@ -27,8 +27,8 @@ list_steps-requires-clause-standing c =
 
 pub list_steps-requires-clause-apart : goal.list_steps-requires-clause-apart
 list_steps-requires-clause-apart c =
-    let b = expansions c.number_task.new.shapes in
-    let d = expansions c.edges_of.new.shapes in
+    let b = c.number_task.new.shapes in
+    let d = c.edges_of.new.shapes in
     let state = c.args.row.now.state.now in
     let entry = c.args.entry.now in
     let lent : Entry = record { input = entry.input; output = entry.output; branches = c.deref.result; item = entry.item } in
@@ -47,12 +47,12 @@ returns-clause-adds c =
     let task = c.in_ok-task.task in
     let settings = settings_view row.state.now.settings in
     let kind = kind_view row.state.now.kind in
-    let inputs = inputs_in (table_view checker.machine.now) (certificate_of (expansions a) checker) in
-    let end = end_in (table_view checker.machine.now) (certificate_of (expansions a) checker) (scope_view row.scope.now) in
-    let own = numbers_view (expansions a) entry in
+    let inputs = inputs_in (table_view checker.machine.now) (certificate_of a checker) in
+    let end = end_in (table_view checker.machine.now) (certificate_of a checker) (scope_view row.scope.now) in
+    let own = numbers_view a entry in
     let s : Standing = record { checker = c.args.self; output = entry.output; end = c.end_of.result; takes = task.takes } in
     let around = surrounded_by declared inputs end n own in
-    let seen : standing_view (expansions d) s ≡ destination_shapes around =
+    let seen : standing_view d s ≡ destination_shapes around =
     standing_seen a b d c.number_task.ensures.keeps c.edges_of.ensures.keeps s c.requires.within entry c.requires.entry (scope_view row.scope.now) declared n task c.in_ok-task.ensures.numbered refl refl (c.end_of.ensures.seen d) in
-    let same = entered entry c.deref.result c.deref.ensures.value (expansions b) ∙ numbers_shown a b c.number_task.ensures.keeps entry c.requires.entry in
-    listed_along around settings kind _ _ _ _ d c.list_steps.new.shapes c.args.rules.now.items c.list_steps.new.rules.items c.list_steps.result c.list_steps.ensures.unchanged seen c.in_ok-task.ensures.numbered.gives same (ap (steps_of (expansions d)) c.deref-2.ensures.value ∙ c.in_ok-steps.ensures.walked) (c.walk_breaks_what_flow_breaks.ensures.breaches around settings kind) c.list_steps.ensures.adds
+    let same = entered entry c.deref.result c.deref.ensures.value b ∙ numbers_shown a b c.number_task.ensures.keeps entry c.requires.entry in
+    listed_along around settings kind _ _ _ _ d c.list_steps.new.shapes c.args.rules.now.items c.list_steps.new.rules.items c.list_steps.result c.list_steps.ensures.unchanged seen c.in_ok-task.ensures.numbered.gives same (ap (steps_of d) c.deref-2.ensures.value ∙ c.in_ok-steps.ensures.walked) (c.walk_breaks_what_flow_breaks.ensures.breaches around settings kind) c.list_steps.ensures.adds

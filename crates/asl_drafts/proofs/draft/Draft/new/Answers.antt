@@ -1,5 +1,4 @@
 use Rattle.std.proofs.Common.{ap₂}
-use Rattle.asl_numbered.specs.Expansion.{expansions}
 use Rattle.asl_states.specs.Table.{table_view}
 use Rattle.asl_drafts.proofs.DraftViews.{are-new, draft_of, entries-new, never-new}
 use Rattle.asl_drafts.proofs.Grown.{never_grown}
@@ -15,7 +14,7 @@ invariant_of-result c =
 
 pub returns-clause-first : goal.returns-clause-first
 returns-clause-first c =
-    let nodes = c.put.new.self in
+    let table = c.put.new.self in
     let never = c.in_ok-never.ensures.number in
-    ap₂ draft_of (never-new nodes c.new-2.result c.in_ok-never.never never c.new-2.ensures)
-    (entries-new (expansions nodes) c.new.result (table_view c.args.machine.now).states c.in_ok-entries.entries.items (never-new nodes c.new.result c.in_ok-never.never never c.new.ensures) c.in_ok-entries.ensures)
+    ap₂ draft_of (never-new table c.new-2.result c.in_ok-never.never never c.new-2.ensures)
+    (entries-new table c.new.result (table_view c.args.machine.now).states c.in_ok-entries.entries.items (never-new table c.new.result c.in_ok-never.never never c.new.ensures) c.in_ok-entries.ensures)

@@ -1,4 +1,4 @@
-use Rattle.asl_numbered.specs.Expansion.{expansions, shape_at}
+use Rattle.asl_numbered.specs.Expansion.{shape_at}
 use Rattle.asl_drafts.specs.Entries.{entries_view}
 use Rattle.asl_drafts.specs.Growing.{growth_view}
 use Rattle.asl_drafts.proofs.DraftViews.{entry-told, output-told}
@@ -27,11 +27,11 @@ returns-in-None-clause-takes c =
     let before = c.args.self.now in
     let a = before.store in
     let b = c.take.new.store in
-    output-told c.args.target (shape_at (expansions a) c.args.flowing) c.part.result c.part.ensures (growth_view (expansions a) before.output) (growth_view (expansions b) c.take.new.self) (entries_view (expansions a) before.entries.items) (entries_view (expansions b) before.entries.items) c.take.result c.in-None.is (all-entries-same a b before.entries.items c.take.ensures.keeps before.entries_grown) c.take.ensures.takes
+    output-told c.args.target (shape_at a c.args.flowing) c.part.result c.part.ensures (growth_view a before.output) (growth_view b c.take.new.self) (entries_view a before.entries.items) (entries_view b before.entries.items) c.take.result c.in-None.is (all-entries-same a b before.entries.items c.take.ensures.keeps before.entries_grown) c.take.ensures.takes
 
 pub returns-in-Some-clause-takes : goal.returns-in-Some-clause-takes
 returns-in-Some-clause-takes c =
     let before = c.args.self.now in
     let a = before.store in
     let b = c.take_in_entries.new.store in
-    entry-told c.args.target (shape_at (expansions a) c.args.flowing) c.part.result c.part.ensures (c.in-Some.state, c.in-Some.part) (growth_view (expansions a) before.output) (growth_view (expansions b) before.output) (entries_view (expansions a) before.entries.items) (entries_view (expansions b) c.take_in_entries.new.entries.items) c.take_in_entries.result c.in-Some.is (growth-kept a b before.output c.take_in_entries.ensures.keeps before.output_grown) c.take_in_entries.ensures.takes
+    entry-told c.args.target (shape_at a c.args.flowing) c.part.result c.part.ensures (c.in-Some.state, c.in-Some.part) (growth_view a before.output) (growth_view b before.output) (entries_view a before.entries.items) (entries_view b c.take_in_entries.new.entries.items) c.take_in_entries.result c.in-Some.is (growth-kept a b before.output c.take_in_entries.ensures.keeps before.output_grown) c.take_in_entries.ensures.takes

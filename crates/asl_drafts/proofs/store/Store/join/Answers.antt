@@ -1,23 +1,19 @@
 use Rattle.std.proofs.Common.{◌≡◌, ◌<◌, ℕ, List, length, Bool, false, Option, Some, sym, ◌∙◌, subst, arith}
 use Rattle.std.proofs.lemmas.Grind.{common_steps}
 use Rattle.std.specs.Prelude.{IfSome}
-use Rattle.asl_model.specs.Shape.{inhabited}
+use Rattle.asl_model.specs.Shape.{Shape, inhabited}
 use Rattle.asl_model.specs.ShapeOrder as order
 use Rattle.asl_model.proofs.JoinFuel.{join-first_uninhabited}
-use Rattle.asl_numbered.specs.declared.node.Node.{Node}
-use Rattle.asl_numbered.specs.Expansion.{expansions, shape_at}
-use Rattle.asl_numbered.specs.Joins.{Shows}
-use Rattle.asl_numbered.proofs.Expansions.{as_many}
+use Rattle.asl_numbered.specs.Expansion.{shape_at, Shows}
 use Rattle.asl_drafts.proofs.Known.{cuts_kept}
 use Rattle.asl_drafts.proofs.Measured.{depths_kept}
 use Rattle.asl_drafts.proofs.store.Store.join.Goals as goal
 
 -- where no tree has the first shape, the second is their join
-second-shown : (nodes : List Node) (first second : ℕ) (told : Option Bool) (lives : Bool) → told ≡ Some lives → lives ≡ false → IfSome told (λ b. b ≡ inhabited (shape_at (expansions nodes) first)) → second < length nodes → Shows (expansions nodes) (order.join (shape_at (expansions nodes) first) (shape_at (expansions nodes) second)) second
-second-shown nodes first second told lives is none defined there =
-    let table = expansions nodes in
+second-shown : (table : List Shape) (first second : ℕ) (told : Option Bool) (lives : Bool) → told ≡ Some lives → lives ≡ false → IfSome told (λ b. b ≡ inhabited (shape_at table first)) → second < length table → Shows table (order.join (shape_at table first) (shape_at table second)) second
+second-shown table first second told lives is none defined there =
     let empty = sym (subst (λ o. IfSome o (λ b. b ≡ inhabited (shape_at table first))) is defined) ∙ none in
-    record { within = omega (arith, there, as_many nodes); same = sym (join-first_uninhabited (shape_at table first) (shape_at table second) empty) }
+    record { within = there; same = sym (join-first_uninhabited (shape_at table first) (shape_at table second) empty) }
 
 pub returns-then-not-unwrap-clause-join : goal.returns-then-not-unwrap-clause-join
 returns-then-not-unwrap-clause-join c =

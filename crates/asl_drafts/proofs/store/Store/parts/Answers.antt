@@ -1,10 +1,9 @@
-use Rattle.asl_numbered.specs.Expansion.{expansions}
 use Rattle.asl_drafts.proofs.Rebuilt.{parts_there, parts_below}
 use Rattle.asl_drafts.proofs.store.Store.parts.Goals as goal
 
 pub returns-in-Some-clause-parts : goal.returns-in-Some-clause-parts
 returns-in-Some-clause-parts c =
-    rw (← c.self.view_is) (parts_there (expansions c.self.inside.shapes) c.args.number c.in-Some.kinds c.parts_in.result c.in-Some.ensures.shown c.parts_in.ensures)
+    rw (← c.self.view_is) (parts_there c.self.inside.shapes c.args.number c.in-Some.kinds c.parts_in.result c.in-Some.ensures.shown c.parts_in.ensures)
 
 pub returns-in-Some-clause-below : goal.returns-in-Some-clause-below
 returns-in-Some-clause-below c =

@@ -2,7 +2,6 @@ use Rattle.std.proofs.Common.{◌≡◌, Some, None, option_map, refl, sym, ap, 
 use Rattle.asl_draft_laws.specs.Drafts as model
 use Rattle.asl_state_edges.specs.View.{destination_view, edge_view}
 use Rattle.asl_states.specs.Table.{table_view}
-use Rattle.asl_numbered.specs.Expansion.{expansions}
 use Rattle.asl_drafts.specs.Drafted.{target_view}
 use Rattle.asl_drafts.specs.declared.walker.Walker.{Walker}
 use Rattle.asl_drafts.proofs.Leading.{edge-rests, none-rests}
@@ -20,7 +19,7 @@ returns-in_ok-add-in-Some-clause-walked c =
     let before = c.args.self.now in
     let table = table_view c.args.machine.now in
     let n = c.args.origin.state in
-    let shapes = expansions before.draft.store in
+    let shapes = before.draft.store in
     let edge = c.args.edge.now in
     let one : Walker = record { draft = before.draft; waiting = before.waiting; predecessors = c.add.new.self } in
     let leads : Some (target_view c.in-Some.target) ≡ model.target_of table n (destination_view edge.destination) = ap (option_map target_view) (sym c.in-Some.is) ∙ c.target_of.ensures in
@@ -32,7 +31,7 @@ returns-in-None-clause-walked c =
     let before = c.args.self.now in
     let table = table_view c.args.machine.now in
     let n = c.args.origin.state in
-    let shapes = expansions before.draft.store in
+    let shapes = before.draft.store in
     let edge = c.args.edge.now in
     let leads : None ≡ model.target_of table n (destination_view edge.destination) = ap (option_map target_view) (sym c.in-None.is) ∙ c.target_of.ensures in
     nothing-taken table c.args.origin (edge_view shapes edge) before (none-rests table n shapes edge leads)

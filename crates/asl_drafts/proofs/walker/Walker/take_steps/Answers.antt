@@ -1,14 +1,13 @@
 use Rattle.std.proofs.Common.{◌≡◌, ◌+◌, ◌||◌, Bool, true, length, refl, sym, subst, arith}
+use Rattle.asl_numbered.specs.Laws.{keeps_longer}
 use Rattle.asl_draft_laws.specs.Drafts.{step_taken}
 use Rattle.asl_state_edges.specs.View.{step_view, steps_of}
 use Rattle.asl_state_edges.specs.declared.found.Step.{Step}
 use Rattle.asl_states.specs.Table.{table_view}
-use Rattle.asl_numbered.specs.Expansion.{expansions}
 use Rattle.asl_drafts.specs.Drafted.{draft_view, room}
 use Rattle.asl_drafts.specs.Entries.{Makes}
 use Rattle.asl_drafts.specs.Underway.{StepsOn}
 use Rattle.asl_drafts.specs.declared.predecessors.Origin.{Origin}
-use Rattle.asl_state_edges.proofs.Kept.{longer}
 use Rattle.asl_drafts.proofs.Leading.{first_steps, step-below, step-kept, step-wider, steps-many, steps-more}
 use Rattle.asl_drafts.proofs.Underway.{HasWalked, changed-now, unchanged-now, walked-more}
 use Rattle.asl_drafts.proofs.walker.Walker.take_steps.Goals as goal
@@ -18,7 +17,7 @@ pub take_step-requires : goal.take_step-requires
 take_step-requires c =
     let first = c.args.self.now.draft.store in
     let l = c.loop-place in
-    step-wider (length first) (length l.self.draft.store) c.index-steps-place.result (longer first l.self.draft.store l.invariant.keeps) (step-below (length first) c.args.steps.now l.place _ c.loop-place-test.true c.index-steps-place.is c.requires)
+    step-wider (length first) (length l.self.draft.store) c.index-steps-place.result (keeps_longer first l.self.draft.store l.invariant.keeps) (step-below (length first) c.args.steps.now l.place _ c.loop-place-test.true c.index-steps-place.is c.requires)
 
 pub loop-place-preserved : goal.loop-place-preserved
 loop-place-preserved c =
@@ -27,7 +26,7 @@ loop-place-preserved c =
     let first = c.args.self.now in
     let steps = c.args.steps.now in
     let l = c.loop-place in
-    let shapes = expansions first.draft.store in
+    let shapes = first.draft.store in
     let step : Step = c.index-steps-place.result in
     let origin : Origin = record { state = n; place = l.place } in
     let same = step-kept first.draft.store l.self.draft.store step l.invariant.keeps (step-below (length first.draft.store) steps l.place step c.loop-place-test.true c.index-steps-place.is c.requires) in

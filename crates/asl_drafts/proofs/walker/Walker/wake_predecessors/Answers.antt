@@ -1,8 +1,8 @@
 use Rattle.std.proofs.Common.{◌≡◌, Contains, get_or, sym, ◌∙◌, subst}
 use Rattle.std.proofs.lemmas.List.{get_or_default}
+use Rattle.asl_numbered.specs.Laws.{keeps_trans}
 use Rattle.asl_drafts.specs.Walker.{WaitsOrStays}
 use Rattle.asl_drafts.specs.declared.predecessors.Inflow.{Inflow}
-use Rattle.asl_numbered.proofs.Expansions.{keeps_trans}
 use Rattle.asl_drafts.proofs.Walkers.{again-all, again-stays, again-waits, stays-before, waits-twice}
 use Rattle.asl_drafts.proofs.walker.Walker.wake_predecessors.Goals as goal
 use Rattle.asl_drafts.proofs.walker.Walker.wake_predecessors.Goals.{then-branch+in_ok-wake, else-branch}

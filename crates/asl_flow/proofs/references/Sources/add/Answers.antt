@@ -1,15 +1,14 @@
 use Rattle.std.proofs.Common.{◌∙◌}
 use Rattle.asl_shape.specs.View.{view}
-use Rattle.asl_flow.proofs.Numbered.{number_within}
-use Rattle.asl_flow.proofs.SourcesKept.{item-within, item-same}
+use Rattle.asl_numbered.specs.Laws.{kept_item, kept_item_within}
 use Rattle.asl_flow.proofs.references.Sources.add.Goals as goal
 
 pub returns-clause-within : goal.returns-clause-within
 returns-clause-within c = record {
-  input = number_within c.add.new.self (view c.args.input.now) c.in_ok-input.input c.in_ok-input.ensures.number;
-  item = item-within c.add_item.new.shapes c.add.new.self c.in_ok-input.ensures.keeps c.in_ok-item.item c.in_ok-item.ensures.within;
+  input = c.in_ok-input.ensures.number.within;
+  item = kept_item_within c.add_item.new.shapes c.add.new.self c.in_ok-item.item c.in_ok-input.ensures.keeps c.in_ok-item.ensures.within;
 }
 
 pub returns-clause-item : goal.returns-clause-item
 returns-clause-item c =
-    item-same c.add_item.new.shapes c.add.new.self c.in_ok-input.ensures.keeps c.in_ok-item.item c.in_ok-item.ensures.within ∙ c.in_ok-item.ensures.shape
+    kept_item c.add_item.new.shapes c.add.new.self c.in_ok-item.item c.in_ok-input.ensures.keeps c.in_ok-item.ensures.within ∙ c.in_ok-item.ensures.shape

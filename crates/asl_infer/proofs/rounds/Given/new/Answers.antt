@@ -1,5 +1,4 @@
 use Rattle.std.proofs.Common.{refl}
-use Rattle.asl_numbered.specs.Expansion.{expansions}
 use Rattle.asl_records.specs.View.{declared_view}
 use Rattle.asl_states.specs.Table.{table_view}
 use Rattle.asl_infer.proofs.Declared.{tasks_kept}
@@ -11,7 +10,7 @@ returns-clause-given c = record {
   declares = refl;
   strict = refl;
   numbers = record {
-    tasks = tasks_kept (declared_view c.args.declared.now) (table_view c.args.machine.now).names (expansions c.task_numbers.new.store) (expansions c.add.new.self) c.in_ok-tasks.tasks.items c.in_ok-input.ensures.keeps c.in_ok-tasks.ensures.tasks;
+    tasks = tasks_kept (declared_view c.args.declared.now) (table_view c.args.machine.now).names c.task_numbers.new.store c.add.new.self c.in_ok-tasks.tasks.items c.in_ok-input.ensures.keeps c.in_ok-tasks.ensures.tasks;
     many = c.in_ok-tasks.ensures.many;
     input = c.in_ok-input.ensures.number;
   };

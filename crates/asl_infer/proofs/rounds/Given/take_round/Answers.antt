@@ -1,8 +1,7 @@
 use Rattle.std.proofs.Common.{◌<◌, ◌≤◌, ◌+◌, ℕ, Global, Vec, length, sym, subst, arith}
 use Rattle.std.proofs.lemmas.Option.{slice_get_within}
 use Rattle.std.proofs.lemmas.Result.{err_from_is_err_and}
-use Rattle.asl_numbered.specs.Expansion.{expansions}
-use Rattle.asl_numbered.proofs.Expansions.{keeps_trans}
+use Rattle.asl_numbered.specs.Laws.{keeps_trans}
 use Rattle.asl_drafts.specs.Drafted.{draft_view}
 use Rattle.asl_infer.specs.Rounds.{IsChanged, declared_in, table_in}
 use Rattle.asl_infer.proofs.Declared.{given_kept}
@@ -11,7 +10,7 @@ use Rattle.asl_infer.proofs.rounds.Given.take_round.Goals as goal
 use Rattle.asl_infer.proofs.rounds.Given.take_round.Goals.{then-branch, else-branch}
 
 pub take_turn-requires-clause-given : goal.take_turn-requires-clause-given
-take_turn-requires-clause-given c = given_kept (expansions c.args.walker.now.draft.store) (expansions c.loop-turn.walker.draft.store) c.args.self.now c.loop-turn.invariant.keeps c.requires.given
+take_turn-requires-clause-given c = given_kept c.args.walker.now.draft.store c.loop-turn.walker.draft.store c.args.self.now c.loop-turn.invariant.keeps c.requires.given
 
 pub returns-in_err-take_turn-clause-told : goal.returns-in_err-take_turn-clause-told
 returns-in_err-take_turn-clause-told c =

@@ -1,7 +1,6 @@
 use Rattle.std.proofs.Common.{subst}
 use Rattle.std.proofs.lemmas.Result.{err_from_is_err_and}
-use Rattle.asl_numbered.specs.Expansion.{expansions}
-use Rattle.asl_numbered.proofs.Expansions.{keeps_trans}
+use Rattle.asl_numbered.specs.Laws.{keeps_trans}
 use Rattle.asl_drafts.specs.Drafted.{draft_view}
 use Rattle.asl_infer.specs.Rounds.{IsChanged, declared_in, table_in}
 use Rattle.asl_infer.proofs.Declared.{given_kept}
@@ -9,7 +8,7 @@ use Rattle.asl_infer.proofs.TakenRounds.{never-settled, one-taken, told}
 use Rattle.asl_infer.proofs.rounds.Given.take_rounds.Goals as goal
 
 pub take_round-requires-clause-given : goal.take_round-requires-clause-given
-take_round-requires-clause-given c = given_kept (expansions c.args.walker.now.draft.store) (expansions c.loop.walker.draft.store) c.args.self.now c.loop.invariant.keeps c.requires.given
+take_round-requires-clause-given c = given_kept c.args.walker.now.draft.store c.loop.walker.draft.store c.args.self.now c.loop.invariant.keeps c.requires.given
 
 pub returns-in_err-changed-clause-told : goal.returns-in_err-changed-clause-told
 returns-in_err-changed-clause-told c =

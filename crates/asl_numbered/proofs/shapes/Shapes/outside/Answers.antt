@@ -15,4 +15,4 @@ returns-then-outer-len-clause-outside c =
 
 pub returns-then-outer-len-clause-none : goal.returns-then-outer-len-clause-none
 returns-then-outer-len-clause-none c =
-    rw (← c.self.view_is) (told_inside (shape_at (expansions c.self.inside.table) c.args.inner) (shape_at (expansions c.self.inside.table) c.args.outer) c.args.inner c.args.outer (length c.self.inside.table) (length c.self.inside.table) c.outside.result c.sub_is_exactly_inside.ensures.exactly c.sub_means_inside.ensures.inside c.outside.ensures.as_defined)
+    rw (← c.self.view_is) (told_inside (shape_at (expansions c.self.inside.table) c.args.inner) (shape_at (expansions c.self.inside.table) c.args.outer) c.args.inner c.args.outer (length (expansions c.self.inside.table)) (length (expansions c.self.inside.table)) c.outside.result c.sub_is_exactly_inside.ensures.exactly c.sub_means_inside.ensures.inside c.outside.ensures.as_defined)

@@ -3,9 +3,9 @@ use Rattle.std.specs.Map.{keys_of}
 use Rattle.asl_numbered.specs.Expansion.{expansions, shape_over, RefersBelow, IsNumberOf}
 use Rattle.asl_numbered.specs.Kinds.{IsProperNode}
 use Rattle.asl_numbered.specs.Table.{AreFactsOf}
-use Rattle.asl_numbered.proofs.Expansions.{keeps_same}
 use Rattle.asl_numbered.proofs.Tables.{found, added_number, added_keeps, added_table}
 use Rattle.asl_numbered.proofs.table.Table.put.Goals as goal
+use Rattle.asl_numbered.specs.Laws.{keeps_same}
 
 pub returns-in-Some : goal.returns-in-Some
 returns-in-Some c =

@@ -2,7 +2,7 @@ use Rattle.std.proofs.Common.{◌∙◌, length}
 use Rattle.asl_model.specs.Shape.{Shape}
 use Rattle.asl_numbered.specs.Expansion.{shape_at}
 use Rattle.asl_numbered.specs.declared.node.NodeField.{NodeField}
-use Rattle.asl_numbered.proofs.Expansions.{below_next_field}
+use Rattle.asl_numbered.specs.Laws.{below_next_field}
 use Rattle.asl_records.specs.WritingNumbered.{referred, table_of}
 use Rattle.asl_records.proofs.References.{Mention, fields_referred}
 use Rattle.asl_records.proofs.Writings.{begun, gone_on, all_written}

@@ -1,14 +1,14 @@
 use Rattle.std.proofs.lemmas.Result.{on_ok_weaker}
+use Rattle.asl_numbered.specs.Laws.{kept_within}
 use Rattle.asl_state_edges.proofs.Adding.{adds_same, adds_then}
-use Rattle.asl_state_edges.proofs.Kept.{within}
 use Rattle.asl_state_edges.proofs.KeptSteps.{default_kept}
 use Rattle.asl_state_edges.proofs.walking.Walk.walk_choice.Goals as goal
 
 pub walk_default-requires-clause-input : goal.walk_default-requires-clause-input
-walk_default-requires-clause-input c = within _ _ _ c.in_ok-walk_rules.ensures.keeps c.requires.input
+walk_default-requires-clause-input c = kept_within _ _ _ c.in_ok-walk_rules.ensures.keeps c.requires.input
 
 pub walk_default-requires-clause-effective : goal.walk_default-requires-clause-effective
-walk_default-requires-clause-effective c = within _ _ _ c.in_ok-walk_rules.ensures.keeps c.requires.effective
+walk_default-requires-clause-effective c = kept_within _ _ _ c.in_ok-walk_rules.ensures.keeps c.requires.effective
 
 pub returns-clause-adds : goal.returns-clause-adds
 returns-clause-adds c =

@@ -1,7 +1,7 @@
 use Rattle.std.proofs.lemmas.Result.{on_ok_weaker}
-use Rattle.asl_numbered.proofs.Expansions.{keeps_trans}
+use Rattle.asl_numbered.specs.Laws.{keeps_trans, kept_within}
 use Rattle.asl_state_edges.proofs.Adding.{adds_same, adds_then}
-use Rattle.asl_state_edges.proofs.Kept.{entry_within, within}
+use Rattle.asl_state_edges.proofs.Kept.{entry_within}
 use Rattle.asl_state_edges.proofs.KeptSteps.{catchers_kept, settled_kept}
 use Rattle.asl_state_edges.proofs.walking.Walk.walk_parts.Goals as goal
 
@@ -9,10 +9,10 @@ pub walk_settled-requires-clause-entry : goal.walk_settled-requires-clause-entry
 walk_settled-requires-clause-entry c = entry_within _ _ _ c.in_ok-walk_input.ensures.keeps c.requires.entry
 
 pub walk_settled-requires-clause-gives : goal.walk_settled-requires-clause-gives
-walk_settled-requires-clause-gives c = within _ _ _ c.in_ok-walk_input.ensures.keeps c.requires.gives
+walk_settled-requires-clause-gives c = kept_within _ _ _ c.in_ok-walk_input.ensures.keeps c.requires.gives
 
 pub walk_catchers-requires : goal.walk_catchers-requires
-walk_catchers-requires c = record { input = within _ _ _ (keeps_trans _ _ _ c.in_ok-walk_input.ensures.keeps c.in_ok-walk_settled.ensures.keeps) c.requires.entry.input }
+walk_catchers-requires c = record { input = kept_within _ _ _ (keeps_trans _ _ _ c.in_ok-walk_input.ensures.keeps c.in_ok-walk_settled.ensures.keeps) c.requires.entry.input }
 
 pub returns-clause-adds : goal.returns-clause-adds
 returns-clause-adds c =

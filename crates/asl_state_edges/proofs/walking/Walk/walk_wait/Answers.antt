@@ -1,14 +1,14 @@
 use Rattle.std.proofs.lemmas.Result.{on_ok_weaker}
+use Rattle.asl_numbered.specs.Laws.{kept_within}
 use Rattle.asl_state_edges.proofs.Adding.{adds_same, adds_then}
-use Rattle.asl_state_edges.proofs.Kept.{within}
 use Rattle.asl_state_edges.proofs.KeptSteps.{result_kept}
 use Rattle.asl_state_edges.proofs.walking.Walk.walk_wait.Goals as goal
 
 pub walk_result-requires-clause-input : goal.walk_result-requires-clause-input
-walk_result-requires-clause-input c = within _ _ _ c.in_ok-walk_delay.ensures.keeps c.requires.input
+walk_result-requires-clause-input c = kept_within _ _ _ c.in_ok-walk_delay.ensures.keeps c.requires.input
 
 pub walk_result-requires-clause-work : goal.walk_result-requires-clause-work
-walk_result-requires-clause-work c = within _ _ _ c.in_ok-walk_delay.ensures.keeps c.requires.effective
+walk_result-requires-clause-work c = kept_within _ _ _ c.in_ok-walk_delay.ensures.keeps c.requires.effective
 
 pub returns-clause-adds : goal.returns-clause-adds
 returns-clause-adds c =

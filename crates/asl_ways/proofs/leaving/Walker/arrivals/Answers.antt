@@ -1,7 +1,6 @@
 use Rattle.std.proofs.Common.{◌≡◌, ◌++◌, [], length, refl, sym, ap, subst, arith}
 use Rattle.std.proofs.lemmas.List.{append-nil}
-use Rattle.asl_numbered.specs.Expansion.{expansions}
-use Rattle.asl_numbered.proofs.Expansions.{as_many, keeps_trans}
+use Rattle.asl_numbered.specs.Laws.{keeps_trans}
 use Rattle.asl_records.proofs.Kept.{entries_within}
 use Rattle.asl_ways.specs.Adding.{Adds, AreBelow}
 use Rattle.asl_ways.specs.Coming.{leaves_certified, leaves_first, starts}
@@ -12,8 +11,8 @@ use Rattle.asl_ways.proofs.leaving.Walker.arrivals.Goals as goal
 
 pub loop-number-init : goal.loop-number-init
 loop-number-init c =
-    let given = given_in (expansions c.args.shapes.now) c.args.self.now in
-    let table = expansions c.push_start.new.shapes in
+    let given = given_in c.args.shapes.now c.args.self.now in
+    let table = c.push_start.new.shapes in
     let now = c.push_start.new.arrivals.items in
     record {
       count = c.states-count.ensures.number;
@@ -28,9 +27,9 @@ pub loop-number-preserved : goal.loop-number-preserved
 loop-number-preserved c =
     let l = c.loop-number in
     let self = c.args.self.now in
-    let given = given_in (expansions c.args.shapes.now) self in
-    let a = expansions l.shapes in
-    let b = expansions c.push_certified.new.shapes in
+    let given = given_in c.args.shapes.now self in
+    let a = l.shapes in
+    let b = c.push_certified.new.shapes in
     let now = c.push_certified.new.arrivals.items in
     let same = given_kept c.args.shapes.now l.shapes self l.invariant.keeps c.requires.states in
     let more = adds_same b l.arrivals.items now _ (leaves_certified given l.number) (ap (λ g. leaves_certified g l.number) same) c.in_ok-push_certified.ensures.adds in
@@ -43,14 +42,14 @@ loop-number-preserved c =
 pub returns-clause-all : goal.returns-clause-all
 returns-clause-all c =
     let l = c.loop-number in
-    let given = given_in (expansions c.args.shapes.now) c.args.self.now in
+    let given = given_in c.args.shapes.now c.args.self.now in
     let end = c.loop-number-test.false in
     let most = l.auto.number-end in
     let count = l.invariant.count in
     let is : l.number ≡ length given.machine.states = omega (arith, end, most, count) in
-    added_seen (expansions l.shapes) [] l.arrivals.items _ refl (adds_same (expansions l.shapes) [] l.arrivals.items _ _ (ap (λ n. starts given ++ leaves_first given n) is) l.invariant.adds)
+    added_seen l.shapes [] l.arrivals.items _ refl (adds_same l.shapes [] l.arrivals.items _ _ (ap (λ n. starts given ++ leaves_first given n) is) l.invariant.adds)
 
 pub returns-clause-below : goal.returns-clause-below
 returns-clause-below c =
     let l = c.loop-number in
-    subst (λ bound. AreBelow bound l.arrivals.items) (as_many l.shapes) (added_below (expansions l.shapes) [] l.arrivals.items _ refl l.invariant.adds)
+    (added_below l.shapes [] l.arrivals.items _ refl l.invariant.adds)

@@ -1,7 +1,6 @@
 use Rattle.std.proofs.Common.{ap}
 use Rattle.std.proofs.lemmas.Result.{on_ok_weaker}
-use Rattle.asl_numbered.specs.Expansion.{expansions}
-use Rattle.asl_numbered.proofs.Expansions.{keeps_same}
+use Rattle.asl_numbered.specs.Laws.{keeps_same}
 use Rattle.asl_ways.specs.Coming.{leaves_as_certified}
 use Rattle.asl_ways.specs.Given.{given_in}
 use Rattle.asl_ways.proofs.Added.{adds_none, adds_same}
@@ -15,12 +14,12 @@ push_row-requires-clause-input c = (c.in-Some.ensures.below _ c.requires.states)
 
 pub returns-in-Some-clause-adds : goal.returns-in-Some-clause-adds
 returns-in-Some-clause-adds c =
-    let table = expansions c.args.shapes.now in
+    let table = c.args.shapes.now in
     on_ok_weaker c.push_row.result (adds_same _ _ _ _ _ (ap (leaves_as_certified (given_in table c.args.self.now) c.args.number) (c.in-Some.ensures.row table))) c.push_row.ensures.adds
 
 pub returns-in-None-clause-adds : goal.returns-in-None-clause-adds
 returns-in-None-clause-adds c =
-    let table = expansions c.args.shapes.now in
+    let table = c.args.shapes.now in
     adds_same _ _ _ _ _ (ap (leaves_as_certified (given_in table c.args.self.now) c.args.number) (c.in-None.ensures.row table)) (adds_none table c.args.arrivals.now.items)
 
 pub returns-in-None-clause-keeps : goal.returns-in-None-clause-keeps

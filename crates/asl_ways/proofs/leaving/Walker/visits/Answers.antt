@@ -1,6 +1,6 @@
 use Rattle.std.proofs.Common.{◌<◌, Some, length, sym, ◌∙◌, subst, arith}
-use Rattle.asl_numbered.specs.Expansion.{expansions, shape_at}
-use Rattle.asl_numbered.proofs.Expansions.{as_many, keeps_trans}
+use Rattle.asl_numbered.specs.Expansion.{shape_at}
+use Rattle.asl_numbered.specs.Laws.{keeps_trans}
 use Rattle.asl_records.proofs.Kept.{entries_within}
 use Rattle.asl_ways.specs.Coming.{leaves}
 use Rattle.asl_ways.specs.Given.{given_in}
@@ -12,8 +12,8 @@ use Rattle.asl_ways.proofs.leaving.Walker.visits.Goals as goal
 
 pub loop-place-init : goal.loop-place-init
 loop-place-init c =
-    let table = expansions c.visit_start.new.shapes in
-    let given = given_in (expansions c.args.shapes.now) c.args.self.now in
+    let table = c.visit_start.new.shapes in
+    let given = given_in c.args.shapes.now c.args.self.now in
     record {
       most = c.in_ok-visit_start.ensures.visits.most ∙ c.new-search.ensures.most;
       keeps = c.visit_start.ensures.keeps;
@@ -25,16 +25,16 @@ visit_onward-requires c =
     let l = c.loop-place in
     record {
       states = entries_within c.args.shapes.now l.shapes l.invariant.keeps _ c.requires.states;
-      below = subst (λ bound. c.in-Some.visit.arrival.shape < bound) (as_many l.shapes) (visit_within (expansions l.shapes) _ _ _ _ l.place c.in-Some.visit (sym c.nth.ensures ∙ c.in-Some.is) l.invariant.sought);
+      below = (visit_within l.shapes _ _ _ _ l.place c.in-Some.visit (sym c.nth.ensures ∙ c.in-Some.is) l.invariant.sought);
     }
 
 pub loop-place-preserved : goal.loop-place-preserved
 loop-place-preserved c =
     let l = c.loop-place in
-    let a = expansions l.shapes in
-    let b = expansions c.visit_onward.new.shapes in
+    let a = l.shapes in
+    let b = c.visit_onward.new.shapes in
     let self = c.args.self.now in
-    let given = given_in (expansions c.args.shapes.now) self in
+    let given = given_in c.args.shapes.now self in
     let own = c.in-Some.visit in
     let next = c.visit_onward.new.search in
     let same = given_kept c.args.shapes.now l.shapes self l.invariant.keeps c.requires.states in
@@ -53,7 +53,7 @@ returns-in_default-clause-all c =
 pub returns-in_default-clause-below : goal.returns-in_default-clause-below
 returns-in_default-clause-below c =
     let l = c.loop-place in
-    subst (λ bound. AreVisitsBelow bound c.into_visits.result.items) (as_many l.shapes) (sought_ends _ _ l.search c.into_visits.result.items _ l.place l.invariant.most c.into_visits.ensures (none_at l.search.visits.items l.place (sym c.nth.ensures ∙ c.in_default.is)) l.invariant.sought).below
+    (sought_ends _ _ l.search c.into_visits.result.items _ l.place l.invariant.most c.into_visits.ensures (none_at l.search.visits.items l.place (sym c.nth.ensures ∙ c.in_default.is)) l.invariant.sought).below
 
 pub returns-clause-all : goal.returns-clause-all
 returns-clause-all c =
@@ -66,4 +66,4 @@ returns-clause-all c =
 pub returns-clause-below : goal.returns-clause-below
 returns-clause-below c =
     let l = c.loop-place in
-    subst (λ vs. AreVisitsBelow (length l.shapes) vs) (sym c.into_visits-2.ensures) (subst (λ bound. AreVisitsBelow bound l.search.visits.items) (as_many l.shapes) l.invariant.sought.below)
+    subst (λ vs. AreVisitsBelow (length l.shapes) vs) (sym c.into_visits-2.ensures) (l.invariant.sought.below)

@@ -1,5 +1,5 @@
 use Rattle.std.proofs.Common.{◌≡◌}
-use Rattle.asl_numbered.specs.Expansion.{expansions, Keeps}
+use Rattle.asl_numbered.specs.Expansion.{Keeps}
 use Rattle.asl_ways.specs.Given.{given_in}
 use Rattle.asl_ways.proofs.Sought.{AreSought}
 use Rattle.asl_ways.proofs.leaving.Walker.visits.Given as goal
@@ -7,6 +7,6 @@ use Rattle.asl_ways.proofs.leaving.Walker.visits.Given as goal
 abbrev pub invariant-loop-place : goal.invariant-loop-place
 invariant-loop-place l = record {
   most : l.search.most ≡ l.most;
-  keeps : Keeps (expansions l.fn.shapes) (expansions l.shapes);
-  sought : AreSought (expansions l.shapes) (given_in (expansions l.fn.shapes) l.self) l.search.visits.items l.search.most l.place;
+  keeps : Keeps l.fn.shapes l.shapes;
+  sought : AreSought l.shapes (given_in l.fn.shapes l.self) l.search.visits.items l.search.most l.place;
 }
