@@ -27,13 +27,13 @@ last_entry trace last is = last_seen entry_view trace ∙ ap (option_map entry_v
 
 -- the place of the last entry, if it tells that a task was asked
 pub asked_of : (trace : List Entry) (last : Option (Bor Entry)) → option_copied last ≡ slice_get trace (length trace - 1)
-    → place_asked (map entry_view trace) ≡ unwrap_or (option_map (λ e. let told = entry_view e in place_in told.0 told.1) (option_copied last)) []
+    → place_asked (map entry_view trace) ≡ unwrap_or (option_map (λ e. place_in (entry_view e)) (option_copied last)) []
 asked_of trace last is =
-    ap (λ o. unwrap_or (option_map (λ told. place_in told.0 told.1) o) []) (last_seen entry_view trace)
+    ap (λ o. unwrap_or (option_map place_in o) []) (last_seen entry_view trace)
     ∙ seen (last_of trace)
-    ∙ ap (λ o. unwrap_or (option_map (λ e. let told = entry_view e in place_in told.0 told.1) o) []) (sym (is ∙ last_by_number trace))
+    ∙ ap (λ o. unwrap_or (option_map (λ e. place_in (entry_view e)) o) []) (sym (is ∙ last_by_number trace))
   where
-    seen : (o : Option Entry) → unwrap_or (option_map (λ told. place_in told.0 told.1) (option_map entry_view o)) [] ≡ unwrap_or (option_map (λ e. let told = entry_view e in place_in told.0 told.1) o) []
+    seen : (o : Option Entry) → unwrap_or (option_map place_in (option_map entry_view o)) [] ≡ unwrap_or (option_map (λ e. place_in (entry_view e)) o) []
     seen None = refl
     seen (Some e) = refl
 

@@ -8,9 +8,9 @@ use Rattle.asl_model.specs.Machine.{Scope}
 use Rattle.asl_model.specs.Run.{Activity, Ready, Waiting, Split, Done, Failed, Action, Move, Gives, FailsTask, Entry, Asked, Ended, Event, Outcome, Step, Turn, activity_at, after_step, enabled, entries_of, last_activity, outcome_of, run, step, trace}
 use Rattle.asl_model.specs.Tree.{Tree}
 use Rattle.asl_model.proofs.RunOptions.{some_inj, none_some}
-use Rattle.asl_run.specs.Driving.{Drives, Policy, Told, answer_in, answers_among, placed_entry}
+use Rattle.asl_run.specs.Driving.{Drives, Policy, Told, answer_in, answers_among}
 use Rattle.asl_run.specs.Driving.{IsTaken as IsDriven}
-use Rattle.asl_run.proofs.Turns.{run_append}
+use Rattle.asl_run.proofs.Turns.{last_append, run_append, trace_append}
 use Rattle.asl_cases.specs.Asking.{last_of}
 use Rattle.asl_cases.specs.Playing.{ActionFits, Answers, AreTurns, no_turns, turn_then, Plays, Stage, Takes, takes_none, WaitsInTurn, place_of_turn, stage_of}
 use Rattle.asl_cases.specs.Stepping.{IsAlone, none_waits, one_waits, NoOtherWaits, place_asked, place_in}
@@ -18,24 +18,6 @@ use Rattle.asl_cases.proofs.Asked as asked
 use Rattle.asl_cases.proofs.Asked.{IsLeftSo, end_told, left_so, none_other, none_there, steps_on}
 
 -- ---- lists in a row
-
-trace_append : (s t : List Turn) → trace (s ++ t) ≡ trace s ++ trace t
-trace_append [] t = refl
-trace_append (turn ∷ s) t =
-    let here = map (λ entry. (turn.event.place, entry)) (entries_of turn.taken) in
-    ap (λ v. here ++ v) (trace_append s t) ∙ sym (append_assoc here (trace s) (trace t))
-
-last_append : (a : Activity) (s t : List Turn) → last_activity a (s ++ t) ≡ last_activity (last_activity a s) t
-last_append a [] t = refl
-last_append a (turn ∷ s) t = last_append (after_step turn.before turn.taken) s t
-
-map_append : {A B : Type 0} (f : A → B) (xs ys : List A) → map f (xs ++ ys) ≡ map f xs ++ map f ys
-map_append f [] ys = refl
-map_append f (x ∷ xs) ys = ap (λ v. f x ∷ v) (map_append f xs ys)
-
-placed_all : (place : List ℕ) (entries : List Entry) → map placed_entry (map (λ entry. (place, entry)) entries) ≡ map (λ entry. (place, Some entry)) entries
-placed_all place [] = refl
-placed_all place (e ∷ es) = ap (λ (v : Told). (place, Some e) ∷ v) (placed_all place es)
 
 -- what is told last is the last of what was told
 last_told : {A B : Type 0} (f : A → B) (before : List B) (xs : List A) (x : A) → last_of xs ≡ Some x → last_of (before ++ map f xs) ≡ Some (f x)
@@ -73,11 +55,11 @@ pub plays_one : (machine : Scope) (shapes : Option Declared) (before after : Sta
     → step machine before.activity event ≡ Some taken → place_of_turn machine before.activity ≡ Some event.place
     → Takes machine (record { before = before.activity; event = event; taken = step machine before.activity event }) before.answers after.answers
     → ActionFits shapes event.place before.activity event.action
-    → after.told ≡ before.told ++ map (λ entry. (event.place, Some entry)) taken.entries → after.activity ≡ taken.after
+    → after.told ≡ before.told ++ map (λ entry. (event.place, entry)) taken.entries → after.activity ≡ taken.after
     → Plays machine shapes 1 before after
 plays_one machine shapes before after event taken is picked takes fits told stands =
-    let placed : map placed_entry (trace (run machine before.activity (event ∷ []))) ≡ map (λ entry. (event.place, Some entry)) taken.entries =
-    rw is (ap (map placed_entry) (append-nil (map (λ entry. (event.place, entry)) taken.entries)) ∙ placed_all event.place taken.entries) in
+    let placed : trace (run machine before.activity (event ∷ [])) ≡ map (λ entry. (event.place, entry)) taken.entries =
+    rw is (append-nil (map (λ entry. (event.place, entry)) taken.entries)) in
     record {
       events = event ∷ [];
       counted = refl;
@@ -93,14 +75,12 @@ plays_then {machine = machine} {shapes = shapes} {a = a} {b = b} {c = c} {m = m}
     let s = run machine a.activity d.events in
     let t = run machine b.activity e.events in
     let rows : run machine a.activity (d.events ++ e.events) ≡ s ++ t = run_append machine a.activity b.activity d.events e.events d.stands in
-    let entries : map placed_entry (trace s) ++ map placed_entry (trace t) ≡ map placed_entry (trace (run machine a.activity (d.events ++ e.events))) =
-    sym (map_append placed_entry (trace s) (trace t)) ∙ ap (map placed_entry) (sym (trace_append s t)) ∙ ap (λ v. map placed_entry (trace v)) (sym rows) in
+    let entries : trace s ++ trace t ≡ trace (run machine a.activity (d.events ++ e.events)) = sym (trace_append s t) ∙ ap trace (sym rows) in
     record {
       events = d.events ++ e.events;
       counted = length-append d.events e.events ∙ ap (λ k. k + length e.events) d.counted ∙ ap (λ k. m + k) e.counted;
       turns = subst (λ v. AreTurns machine shapes v a.answers c.answers) (sym rows) (turns_append t d.turns e.turns);
-      traced = e.traced ∙ ap (λ v. v ++ map placed_entry (trace t)) d.traced
-          ∙ append_assoc a.told (map placed_entry (trace s)) (map placed_entry (trace t)) ∙ ap (λ v. a.told ++ v) entries;
+      traced = e.traced ∙ ap (λ v. v ++ trace t) d.traced ∙ append_assoc a.told (trace s) (trace t) ∙ ap (λ v. a.told ++ v) entries;
       stands = ap (last_activity a.activity) rows ∙ last_append a.activity s t ∙ ap (λ x. last_activity x t) d.stands ∙ e.stands;
     }
 
@@ -153,32 +133,26 @@ driven_is_played {policy = policy} {machine = machine} {a = a} shapes answers be
 
 -- after a turn no task waits but one that was asked in it
 alone_after : (machine : Scope) (a : Activity) (told : Told) (event : Event) (taken : Step) → step machine a event ≡ Some taken → place_of_turn machine a ≡ Some event.place → IsAlone machine a told
-    → IsAlone machine taken.after (told ++ map (λ entry. (event.place, Some entry)) taken.entries)
+    → IsAlone machine taken.after (told ++ map (λ entry. (event.place, entry)) taken.entries)
 alone_after machine a told event taken is picked alone = go (left_so event.place machine a event.action taken is picked (others alone))
   where
     others : IsAlone machine a told → NoOtherWaits event.place a
     others (none_waits h) = none_other event.place a h
     others (one_waits h turn last) = subst (λ p. NoOtherWaits p a) (some_inj (sym turn ∙ picked)) h
 
-    go : IsLeftSo machine event.place taken.after taken.entries → IsAlone machine taken.after (told ++ map (λ entry. (event.place, Some entry)) taken.entries)
+    go : IsLeftSo machine event.place taken.after taken.entries → IsAlone machine taken.after (told ++ map (λ entry. (event.place, entry)) taken.entries)
     go (asked.none_waits h) = none_waits h
-    go (asked.one_waits {n = n} {payload = payload} h next last) = one_waits h next (last_told (λ entry. (event.place, Some entry)) told taken.entries (Asked n payload) last)
+    go (asked.one_waits {n = n} {payload = payload} h next last) = one_waits h next (last_told (λ entry. (event.place, entry)) told taken.entries (Asked n payload) last)
 
 alone_along : (machine : Scope) (shapes : Option Declared) (a : Activity) (events : List Event) (told : Told) (x y : Answers) → AreTurns machine shapes (run machine a events) x y → IsAlone machine a told
-    → IsAlone machine (last_activity a (run machine a events)) (told ++ map placed_entry (trace (run machine a events)))
+    → IsAlone machine (last_activity a (run machine a events)) (told ++ trace (run machine a events))
 alone_along machine shapes a [] told x y turns alone = subst (IsAlone machine a) (sym (append-nil told)) alone
 alone_along machine shapes a (event ∷ events) told x y (turn_then turn turns) alone =
     let taken = step machine a event in
     let after = after_step a taken in
     let here = map (λ entry. (event.place, entry)) (entries_of taken) in
-    let rest = trace (run machine after events) in
-    let next : IsAlone machine after (told ++ map (λ entry. (event.place, Some entry)) (entries_of taken)) =
-    rw turn.is_enabled (alone_after machine a told event turn.step turn.is_enabled turn.picked alone) in
-    let same : (told ++ map (λ entry. (event.place, Some entry)) (entries_of taken)) ++ map placed_entry rest ≡ told ++ map placed_entry (here ++ rest) =
-    append_assoc told (map (λ entry. (event.place, Some entry)) (entries_of taken)) (map placed_entry rest)
-    ∙ ap (λ v. told ++ (v ++ map placed_entry rest)) (sym (placed_all event.place (entries_of taken)))
-    ∙ ap (λ v. told ++ v) (sym (map_append placed_entry here rest)) in
-    subst (IsAlone machine (last_activity after (run machine after events))) same (alone_along machine shapes after events (told ++ map (λ entry. (event.place, Some entry)) (entries_of taken)) _ y turns next)
+    let next : IsAlone machine after (told ++ here) = rw turn.is_enabled (alone_after machine a told event turn.step turn.is_enabled turn.picked alone) in
+    subst (IsAlone machine (last_activity after (run machine after events))) (append_assoc told here (trace (run machine after events))) (alone_along machine shapes after events (told ++ here) _ y turns next)
 
 pub plays_alone : {machine : Scope} {shapes : Option Declared} {count : ℕ} {before after : Stage} → Plays machine shapes count before after → IsAlone machine before.activity before.told → IsAlone machine after.activity after.told
 plays_alone {machine = machine} {shapes = shapes} {before = before} {after = after} plays alone =
@@ -195,17 +169,17 @@ ends_on (Done output) outcome h = refl
 ends_on (Failed error cause) outcome h = refl
 
 -- the end of a step is told last
-last_here : (machine : Scope) (a : Activity) (told : Told) (event : Event) (taken : Step) (found : Outcome) → step machine a event ≡ Some taken → outcome_of taken.after ≡ Some found → last_of (told ++ map (λ entry. (event.place, Some entry)) taken.entries) ≡ Some ([], Some (Ended found))
+last_here : (machine : Scope) (a : Activity) (told : Told) (event : Event) (taken : Step) (found : Outcome) → step machine a event ≡ Some taken → outcome_of taken.after ≡ Some found → last_of (told ++ map (λ entry. (event.place, entry)) taken.entries) ≡ Some ([], Ended found)
 last_here machine a told event taken found is ended =
     let h = end_told event.place machine a event.action taken found is ended in
-    let at : List ℕ → Option (List ℕ × Option Entry) = λ p. Some (p, Some (Ended found)) in
-    last_told (λ entry. (event.place, Some entry)) told taken.entries (Ended found) h.1 ∙ ap at h.0
+    let at : List ℕ → Option (List ℕ × Entry) = λ p. Some (p, Ended found) in
+    last_told (λ entry. (event.place, entry)) told taken.entries (Ended found) h.1 ∙ ap at h.0
 
 -- and nothing comes behind it
-none_behind : (machine : Scope) (shapes : Option Declared) (a : Activity) (events : List Event) (told : Told) (x y : Answers) (found outcome : Outcome) → outcome_of a ≡ Some found → last_of told ≡ Some ([], Some (Ended found))
-    → AreTurns machine shapes (run machine a events) x y → outcome_of (last_activity a (run machine a events)) ≡ Some outcome → last_of (told ++ map placed_entry (trace (run machine a events))) ≡ Some ([], Some (Ended outcome))
+none_behind : (machine : Scope) (shapes : Option Declared) (a : Activity) (events : List Event) (told : Told) (x y : Answers) (found outcome : Outcome) → outcome_of a ≡ Some found → last_of told ≡ Some ([], Ended found)
+    → AreTurns machine shapes (run machine a events) x y → outcome_of (last_activity a (run machine a events)) ≡ Some outcome → last_of (told ++ trace (run machine a events)) ≡ Some ([], Ended outcome)
 none_behind machine shapes a [] told x y found outcome ended last turns h =
-    let at : Outcome → Option (List ℕ × Option Entry) = λ o. Some ([], Some (Ended o)) in
+    let at : Outcome → Option (List ℕ × Entry) = λ o. Some ([], Ended o) in
     ap last_of (append-nil told) ∙ last ∙ ap at (some_inj (sym ended ∙ h))
 none_behind machine shapes a (event ∷ events) told x y found outcome ended last (turn_then turn turns) h =
     let on = steps_on event.place machine a event.action turn.step turn.is_enabled in
@@ -213,23 +187,17 @@ none_behind machine shapes a (event ∷ events) told x y found outcome ended las
     absurd (cc)
 
 ended_along : (machine : Scope) (shapes : Option Declared) (a : Activity) (events : List Event) (told : Told) (x y : Answers) (outcome : Outcome) → AreTurns machine shapes (run machine a events) x y → outcome_of a ≡ None
-    → outcome_of (last_activity a (run machine a events)) ≡ Some outcome → last_of (told ++ map placed_entry (trace (run machine a events))) ≡ Some ([], Some (Ended outcome))
+    → outcome_of (last_activity a (run machine a events)) ≡ Some outcome → last_of (told ++ trace (run machine a events)) ≡ Some ([], Ended outcome)
 ended_along machine shapes a [] told x y outcome turns going h = none_some (sym going ∙ h)
 ended_along machine shapes a (event ∷ events) told x y outcome (turn_then {between = between} turn turns) going h =
     let taken = step machine a event in
     let after = after_step a taken in
     let here = map (λ entry. (event.place, entry)) (entries_of taken) in
-    let placed = map (λ entry. (event.place, Some entry)) (entries_of taken) in
-    let rest = trace (run machine after events) in
-    let same : (told ++ placed) ++ map placed_entry rest ≡ told ++ map placed_entry (here ++ rest) =
-    append_assoc told placed (map placed_entry rest)
-    ∙ ap (λ v. told ++ (v ++ map placed_entry rest)) (sym (placed_all event.place (entries_of taken)))
-    ∙ ap (λ v. told ++ v) (sym (map_append placed_entry here rest)) in
-    let last : (found : Outcome) → outcome_of after ≡ Some found → last_of (told ++ placed) ≡ Some ([], Some (Ended found)) =
+    let last : (found : Outcome) → outcome_of after ≡ Some found → last_of (told ++ here) ≡ Some ([], Ended found) =
     rw turn.is_enabled (λ found e. last_here machine a told event turn.step found turn.is_enabled e) in
-    ap last_of (sym same) ∙ whether (outcome_of after) refl
-    (λ on. ended_along machine shapes after events (told ++ placed) between y outcome turns on h)
-    (λ found e. none_behind machine shapes after events (told ++ placed) between y found outcome e (last found e) turns h)
+    ap last_of (sym (append_assoc told here (trace (run machine after events)))) ∙ whether (outcome_of after) refl
+    (λ on. ended_along machine shapes after events (told ++ here) between y outcome turns on h)
+    (λ found e. none_behind machine shapes after events (told ++ here) between y found outcome e (last found e) turns h)
   where
     whether : {B : Type 0} (found : Option Outcome) {actual : Option Outcome} → actual ≡ found → (actual ≡ None → B) → ((o : Outcome) → actual ≡ Some o → B) → B
     whether None e on over = on e
@@ -237,7 +205,7 @@ ended_along machine shapes a (event ∷ events) told x y outcome (turn_then {bet
 
 -- where a case that was going on has ended, the last entry tells how
 pub plays_ended : {machine : Scope} {shapes : Option Declared} {count : ℕ} {before after : Stage} (outcome : Outcome) → Plays machine shapes count before after → outcome_of before.activity ≡ None → outcome_of after.activity ≡ Some outcome
-    → last_of after.told ≡ Some ([], Some (Ended outcome))
+    → last_of after.told ≡ Some ([], Ended outcome)
 plays_ended {machine = machine} {shapes = shapes} {before = before} {after = after} outcome plays going ended =
     ap last_of plays.traced ∙ ended_along machine shapes before.activity plays.events before.told before.answers after.answers outcome plays.turns going (ap outcome_of plays.stands ∙ ended)
 
@@ -267,4 +235,4 @@ asked_last machine a told number name place (none_waits none) waits =
     let there = waits_there place a name waits.waits in
     absurd (none_there place a name there.raw there.counts there.payload none there.is)
 asked_last machine a told number name place (one_waits {place = p} {name = n} {payload = payload} others turn last) waits =
-    ap (λ o. unwrap_or (option_map (λ entry. place_in entry.0 entry.1) o) []) last ∙ some_inj (sym turn ∙ waits.turn)
+    ap (λ o. unwrap_or (option_map place_in o) []) last ∙ some_inj (sym turn ∙ waits.turn)

@@ -1,7 +1,6 @@
 -- What is noted of a state, with what an entry takes.
-use Rattle.std.proofs.Common.{◌≡◌, ℕ, Bool, true, false, ◌||◌, List, set, refl, sym, ap, ◌∙◌, Option, Some, None, String, Global, Vec, string_bytes}
+use Rattle.std.proofs.Common.{◌≡◌, ℕ, Bool, true, false, ◌||◌, List, set, refl, sym, ap, ◌∙◌, Option, Some, None}
 use Rattle.std.specs.Prelude.{nat_eq}
-use Rattle.asl_model.specs.Faults.{DataFlowError}
 use Rattle.std.proofs.lemmas.Bool.{or_right}
 use Rattle.std.proofs.lemmas.Option.{none-some}
 use Rattle.asl_model.specs.Machine.{State, StateOf, Settings, Kind}
@@ -9,11 +8,8 @@ use Rattle.asl_model.specs.Names.{StateName}
 use Rattle.asl_model.specs.Run.{Entry, Entered, Asked, Left, Raised, TaskFailed, BranchFailed, Retried, Caught, Ended}
 use Rattle.asl_model.specs.Tree.{Tree}
 use Rattle.asl_cases.specs.Coverage.{Flags, Part, Itself, RuleAt, ByDefault, RetrierAt, CatcherAt, by_number, flags_of, rules_of, taker, takes}
-use Rattle.asl_cases.specs.Taking.{is_default, is_rule, left_by, takes_told}
+use Rattle.asl_cases.specs.Taking.{is_default, is_rule, left_by}
 use Rattle.asl_cases.specs.declared.covered.Taken.{Taken}
-use Rattle.asl_run.specs.Entries.{entry_view, error_named, raised_view}
-use Rattle.asl_run.specs.declared.entries.Entry as code
-use Rattle.asl_run.specs.declared.entries.Entry.TheVariants as entries
 use Rattle.asl_cases.specs.declared.covered.Taken.TheVariants as ways
 use Rattle.asl_cases.proofs.Numbered.{marked, or_none, same_by_number}
 
@@ -66,17 +62,6 @@ takes_nothing (StateOf settings kind) (BranchFailed n child error cause) h part 
 takes_nothing (StateOf settings kind) (Retried n i) h part = absurd (none-some n (sym h))
 takes_nothing (StateOf settings kind) (Caught n i next) h part = absurd (none-some n (sym h))
 takes_nothing (StateOf settings kind) (Ended outcome) h part = refl
-
--- nor does a fault that is raised
-raised_takes_nothing : (state : State) (n field : List ℕ) (error : Option DataFlowError) (part : Part) → takes_told state (raised_view n field error) part ≡ false
-raised_takes_nothing state n field None part = refl
-raised_takes_nothing (StateOf settings kind) n field (Some error) part = refl
-
-pub raised_more : (taken : Part → Bool) (state : State) (entry : code.Entry) (at : Vec ℕ Global) (name error field : String Global) (before : Flags) → entry ≡ entries.Raise at name error field → before ≡ flags_of taken state → before ≡ flags_of (λ part. taken part || takes_told state (entry_view entry).1 part) state
-raised_more taken state entry at name error field before e is =
-    is
-    ∙ nothing_more taken (λ part. takes_told state (entry_view entry).1 part)
-    (λ part. ap (λ x. takes_told state (entry_view x).1 part) e ∙ raised_takes_nothing state (string_bytes name) (string_bytes field) (error_named (string_bytes error)) part) state
 
 pub retried_more : (taken : Part → Bool) (settings : Settings) (kind : Kind) (n : StateName) (i : ℕ) (before : Flags) → before ≡ flags_of taken (StateOf settings kind) → record before { retriers = set before.retriers i true } ≡ flags_of (λ part. taken part || takes (StateOf settings kind) (Retried n i) part) (StateOf settings kind)
 retried_more taken settings kind n i before is =

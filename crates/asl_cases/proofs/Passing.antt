@@ -8,12 +8,12 @@ use Rattle.asl_cases.specs.Asking.{last_of}
 use Rattle.asl_cases.specs.Judging.{HasPassed, IsEnd, outcome_in}
 
 -- the last entry, where it tells that end of the run
-told_last : (last : Option (List ℕ × Option Entry)) (o : Outcome) → Some o ≡ option_and_then outcome_in last → last ≡ Some ([], Some (Ended o))
+told_last : (last : Option (List ℕ × Entry)) (o : Outcome) → Some o ≡ option_and_then outcome_in last → last ≡ Some ([], Ended o)
 told_last None o h = absurd (cc)
-told_last (Some ([], Some (Ended found))) o h = ap (λ f. Some ([], Some (Ended f))) (some_inj (sym h))
+told_last (Some ([], Ended found)) o h = ap (λ f. Some ([], Ended f)) (some_inj (sym h))
 told_last (Some other) o h = absurd (cc)
 
-pub ended_so : (told : Told) (o : Outcome) → Some o ≡ option_and_then outcome_in (last_of told) → last_of told ≡ Some ([], Some (Ended o))
+pub ended_so : (told : Told) (o : Outcome) → Some o ≡ option_and_then outcome_in (last_of told) → last_of told ≡ Some ([], Ended o)
 ended_so told o h = told_last (last_of told) o h
 
 -- it has one, where the case has passed

@@ -81,22 +81,21 @@ is_item None item = true
 is_item (Some meant) item = option_eq nat_eq item (Some meant)
 
 -- an entry tells that the task of that state was asked, in that item, where one is meant
-abbrev pub is_attempt : Table → ℕ → List ℕ → Option ℕ → List ℕ × Option Entry → Bool
-is_attempt table number name item (place, None) = false
-is_attempt table number name item (place, Some (Entered n input)) = false
-is_attempt table number name item (place, Some (Asked n payload)) =
+abbrev pub is_attempt : Table → ℕ → List ℕ → Option ℕ → List ℕ × Entry → Bool
+is_attempt table number name item (place, Entered n input) = false
+is_attempt table number name item (place, Asked n payload) =
     bytes_eq n name && is_item item (item_at table number place)
-is_attempt table number name item (place, Some (Left n output)) = false
-is_attempt table number name item (place, Some (Raised n fault)) = false
-is_attempt table number name item (place, Some (TaskFailed n error cause)) = false
-is_attempt table number name item (place, Some (BranchFailed n child error cause)) = false
-is_attempt table number name item (place, Some (Retried n retrier)) = false
-is_attempt table number name item (place, Some (Caught n catcher next)) = false
-is_attempt table number name item (place, Some (Ended outcome)) = false
+is_attempt table number name item (place, Left n output) = false
+is_attempt table number name item (place, Raised n fault) = false
+is_attempt table number name item (place, TaskFailed n error cause) = false
+is_attempt table number name item (place, BranchFailed n child error cause) = false
+is_attempt table number name item (place, Retried n retrier) = false
+is_attempt table number name item (place, Caught n catcher next) = false
+is_attempt table number name item (place, Ended outcome) = false
 
 -- The attempt of the state's task that was asked last, counted from 0; where the answers of the state are by item, the
 -- item is told, and only its attempts count.
 pub record IsTurnOf (table : Table) (number : ℕ) (name : List ℕ) (own : Option StateScripts) (item : Option ℕ)
-    (told : List (List ℕ × Option Entry)) (attempt : ℕ) (told_item : Option ℕ) : Type 0 where
+    (told : List (List ℕ × Entry)) (attempt : ℕ) (told_item : Option ℕ) : Type 0 where
   pub of_item : told_item ≡ (if are_by_item own then item else None)
   pub counted : attempt ≡ count_by (is_attempt table number name told_item) told - 1

@@ -106,7 +106,7 @@ takes_there table number state part entry =
 -- one of the entries that are told takes it
 abbrev pub is_taken : Table → Told → ℕ → State → Part → Bool
 is_taken table told number state part =
-    list_any (λ entry. option_map_or (takes_there table number state part) entry.1 false) told
+    list_any (λ entry. takes_there table number state part entry.1) told
 
 -- Everything is covered: all that there is to take of each state is taken.
 abbrev pub IsCovered : Table → Told → Type 0

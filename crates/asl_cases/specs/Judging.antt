@@ -12,8 +12,8 @@ use Rattle.asl_tree.specs.View.{view}
 use Rattle.asl_cases.specs.Asking.{last_of}
 
 -- the name of the state that an entry tells is entered; none where it tells something else
-abbrev pub entered_in : List ℕ × Option Entry → Option (List ℕ)
-entered_in (place, Some (Entered n input)) = Some n
+abbrev pub entered_in : List ℕ × Entry → Option (List ℕ)
+entered_in (place, Entered n input) = Some n
 entered_in other = None
 
 -- the names of the states that are entered, in their order
@@ -21,8 +21,8 @@ abbrev pub path_of : Told → List (List ℕ)
 path_of told = filter_map entered_in told
 
 -- the payload with which an entry tells that the task of that state is asked; none where it tells something else
-abbrev pub asked_in : List ℕ → List ℕ × Option Entry → Option Tree
-asked_in name (place, Some (Asked n payload)) = if bytes_eq n name then Some payload else None
+abbrev pub asked_in : List ℕ → List ℕ × Entry → Option Tree
+asked_in name (place, Asked n payload) = if bytes_eq n name then Some payload else None
 asked_in name other = None
 
 -- the payloads with which the task of that state is asked, in their order
@@ -46,7 +46,7 @@ AreAsked told expected = payloads_of (string_bytes expected.state) told ≡ map 
 -- What isn't expected may be any.
 pub record HasPassed (expected : Expected) (told : Told) : Type 0 where
   pub outcome : Outcome
-  pub ended : last_of told ≡ Some ([], Some (Ended outcome))
+  pub ended : last_of told ≡ Some ([], Ended outcome)
   pub end : IfSome expected.end (λ end. IsEnd end outcome)
   pub path : IfSome expected.path (λ path. path_of told ≡ map string_bytes path.items)
   pub payloads : All (AreAsked told) expected.payloads.items
@@ -54,6 +54,6 @@ pub record HasPassed (expected : Expected) (told : Told) : Type 0 where
 -- ---- the end of a run
 
 -- The outcome of the run, where an entry tells that it has ended. No public clause cites this.
-abbrev pub outcome_in : List ℕ × Option Entry → Option Outcome
-outcome_in ([], Some (Ended outcome)) = Some outcome
+abbrev pub outcome_in : List ℕ × Entry → Option Outcome
+outcome_in ([], Ended outcome) = Some outcome
 outcome_in other = None

@@ -1,5 +1,5 @@
 -- What a case comes to that is played.
-use Rattle.std.specs.Prelude.{◌≡◌, ◌≢◌, ◌<◌, ◌≤◌, ℕ, List, [], ◌∷◌, ◌++◌, map, length, Bool, true, false}
+use Rattle.std.specs.Prelude.{◌≡◌, ◌≢◌, ◌<◌, ◌≤◌, ℕ, List, [], ◌∷◌, ◌++◌, length, Bool, true, false}
 use Rattle.std.specs.Prelude.{Option, Some, None, option_map, slice_get}
 use Rattle.asl_model.specs.Certificate.{Declared, ActionObeys, gives_of, waiting_at}
 use Rattle.asl_model.specs.Machine.{Scope}
@@ -8,7 +8,7 @@ use Rattle.asl_model.specs.Run.{Action, Move, Gives, Activity, Ended, Event, Ste
 use Rattle.asl_model.specs.Run.{Outcome, Output, FailedWith, enabled, last_activity, outcome_of}
 use Rattle.asl_model.specs.Shape.{has}
 use Rattle.asl_model.specs.Tree.{Tree}
-use Rattle.asl_run.specs.Driving.{Told, placed_entry}
+use Rattle.asl_run.specs.Driving.{Told}
 use Rattle.asl_suites.specs.Scripts.{StateScripts, answer_of, left_of}
 use Rattle.asl_cases.specs.Asking.{IsTurnOf, item_of, last_of}
 use Rattle.asl_cases.specs.declared.playing.End.{End}
@@ -113,7 +113,7 @@ pub record Plays (machine : Scope) (shapes : Option Declared) (count : ℕ) (bef
   pub events : List Event
   pub counted : length events ≡ count
   pub turns : AreTurns machine shapes (run machine before.activity events) before.answers after.answers
-  pub traced : after.told ≡ before.told ++ map placed_entry (trace (run machine before.activity events))
+  pub traced : after.told ≡ before.told ++ trace (run machine before.activity events)
   pub stands : last_activity before.activity (run machine before.activity events) ≡ after.activity
 
 -- ---- how a case ends
@@ -121,7 +121,7 @@ pub record Plays (machine : Scope) (shapes : Option Declared) (count : ℕ) (bef
 -- the run has ended so, which the last entry tells
 pub record HasEnded (stage : Stage) (outcome : Outcome) : Type 0 where
   pub ended : outcome_of stage.activity ≡ Some outcome
-  pub told : last_of stage.told ≡ Some ([], Some (Ended outcome))
+  pub told : last_of stage.told ≡ Some ([], Ended outcome)
 
 -- The run goes on, and a task of the state of that number waits for an answer. None is left for it.
 pub record IsUnanswered (machine : Scope) (stage : Stage) (number attempt : ℕ) (item : Option ℕ) : Type 0 where

@@ -56,24 +56,23 @@ NoOtherWaits (i ∷ p) (Failed error cause) = Unit {0}
 pub data IsAlone (machine : Scope) (a : Activity) (told : Told) : Type 0 where
   none_waits : NoneWaits a → IsAlone machine a told
   one_waits : {place name : List ℕ} {payload : Tree} → NoOtherWaits place a → place_of_turn machine a ≡ Some place
-      → last_of told ≡ Some (place, Some (Asked name payload)) → IsAlone machine a told
+      → last_of told ≡ Some (place, Asked name payload) → IsAlone machine a told
 
 -- the place of the task that was asked there
-abbrev pub place_in : List ℕ → Option Entry → List ℕ
-place_in place None = []
-place_in place (Some (Entered n input)) = []
-place_in place (Some (Asked n payload)) = place
-place_in place (Some (Left n output)) = []
-place_in place (Some (Raised n fault)) = []
-place_in place (Some (TaskFailed n error cause)) = []
-place_in place (Some (BranchFailed n child error cause)) = []
-place_in place (Some (Retried n retrier)) = []
-place_in place (Some (Caught n catcher next)) = []
-place_in place (Some (Ended outcome)) = []
+abbrev pub place_in : List ℕ × Entry → List ℕ
+place_in (place, Entered n input) = []
+place_in (place, Asked n payload) = place
+place_in (place, Left n output) = []
+place_in (place, Raised n fault) = []
+place_in (place, TaskFailed n error cause) = []
+place_in (place, BranchFailed n child error cause) = []
+place_in (place, Retried n retrier) = []
+place_in (place, Caught n catcher next) = []
+place_in (place, Ended outcome) = []
 
 -- the place of the task that was asked last, where nothing has happened since; else the machine's own
 abbrev pub place_asked : Told → List ℕ
-place_asked told = unwrap_or (option_map (λ entry. place_in entry.0 entry.1) (last_of told)) []
+place_asked told = unwrap_or (option_map place_in (last_of told)) []
 
 -- ---- what fits
 

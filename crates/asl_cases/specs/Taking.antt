@@ -1,9 +1,6 @@
 -- What an entry takes, as the code finds it. No public clause cites this module.
 use Rattle.std.specs.Prelude.{ℕ, Bool, true, false, nat_eq, Option, Some, None, slice_set}
-use Rattle.std.specs.Option.{option_map_or}
-use Rattle.asl_model.specs.Machine.{State}
-use Rattle.asl_model.specs.Run.{Entry}
-use Rattle.asl_cases.specs.Coverage.{Flags, Part, takes}
+use Rattle.asl_cases.specs.Coverage.{Flags}
 use Rattle.asl_cases.specs.declared.covered.Taken.{Taken}
 use Rattle.asl_cases.specs.declared.covered.Taken.TheVariants as ways
 
@@ -18,10 +15,6 @@ abbrev pub is_default : Option Taken → Bool
 is_default None = false
 is_default (Some (ways.Rule number)) = false
 is_default (Some ways.Default) = true
-
--- an entry that is told takes that part of the state of which it tells
-abbrev pub takes_told : State → Option Entry → Part → Bool
-takes_told state entry part = option_map_or (λ e. takes state e part) entry false
 
 -- what is noted of a state once it was entered, and left so if it is a Choice
 abbrev pub left_by : Option Taken → Flags → Flags

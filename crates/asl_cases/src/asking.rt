@@ -13,7 +13,7 @@ use asl_suites::CaseAnswers;
 
 /// The place of the task that was asked last: while each is answered before anything else happens, it is the one that
 /// waits. The machine's own place where none was asked last.
-pub(crate) fn asked_place(trace: &[Entry]) -> &[usize]
+pub(crate) fn asked_place<'t>(trace: &'t [Entry<'_>]) -> &'t [usize]
     ensures { result.now ≡ place_asked (map entry_view trace.now) }
 {
     match trace.last() {
@@ -23,8 +23,8 @@ pub(crate) fn asked_place(trace: &[Entry]) -> &[usize]
 }
 
 /// The place of the task that the entry tells was asked; the machine's own where it tells something else.
-fn place_in(entry: &Entry) -> &[usize]
-    ensures { let told = entry_view entry.now in result.now ≡ place_in told.0 told.1 }
+fn place_in<'e>(entry: &'e Entry<'_>) -> &'e [usize]
+    ensures { result.now ≡ place_in (entry_view entry.now) }
 {
     match entry {
         Entry::Task { at, .. } => at,
@@ -121,7 +121,7 @@ fn is_attempt(
             at,
             state: asked,
             ..
-        } => asked.as_str() == name && is_item(item, item_at(machine, state, at)),
+        } => *asked == name && is_item(item, item_at(machine, state, at)),
         Entry::Enter { .. }
         | Entry::Leave { .. }
         | Entry::Raise { .. }

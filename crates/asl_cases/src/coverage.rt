@@ -1,7 +1,6 @@
 //! What the runs of cases have taken of a machine.
 
 ghost use Rattle.std.specs.Prelude.{◌≡◌, ◌∷◌, ◌++◌, ◌↔◌, [], IfOk, length, map, option_map};
-ghost use Rattle.std.specs.Option.{option_and_then};
 ghost use Rattle.asl_model.specs.Tree.{Object, NoFields};
 ghost use Rattle.asl_states.specs.Table.{table_view};
 ghost use Rattle.asl_tree.specs.View.{view};
@@ -98,13 +97,12 @@ fn add_entry(states: &mut Vec<Covered>, machine: &Machine, entry: &Entry, empty:
 }
 
 /// The name of the state of which an entry takes something; none where it takes nothing.
-fn taker(entry: &Entry) -> Option<&str>
-    ensures { let told = entry_view entry.now in
-        option_map (λ name. name.now) result ≡ option_and_then taker told.1 }
+fn taker<'m>(entry: &Entry<'m>) -> Option<&'m str>
+    ensures { option_map (λ name. name.now) result ≡ taker (entry_view entry.now).1 }
 {
     match entry {
         Entry::Enter { state, .. } | Entry::Retried { state, .. } | Entry::Caught { state, .. } => {
-            Some(state)
+            Some(*state)
         }
         Entry::Task { .. }
         | Entry::Leave { .. }

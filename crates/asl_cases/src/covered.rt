@@ -8,7 +8,7 @@ ghost use Rattle.asl_states.specs.Machine.{choice_rule_view, kind_view, settings
 ghost use Rattle.asl_tree.specs.View.{view};
 ghost use Rattle.asl_run.specs.Entries.{entry_view};
 ghost use Rattle.asl_cases.specs.Coverage.{Part, are_false, choice_input, default_of, flags_of, flags_view, is_first_true, rules_of, takes};
-ghost use Rattle.asl_cases.specs.Taking.{is_default, is_rule, left_by, takes_told};
+ghost use Rattle.asl_cases.specs.Taking.{is_default, is_rule, left_by};
 
 use asl_choice::holds;
 use asl_path::find;
@@ -58,16 +58,16 @@ impl Covered {
             let shown = state_view state.now in
             view empty.now ≡ Object NoFields → flags_view self.old ≡ flags_of taken shown
             → flags_view self.new
-            ≡ flags_of (λ part. taken part || takes_told shown told.1 part) shown }
+            ≡ flags_of (λ part. taken part || takes shown told.1 part) shown }
     {
         match entry {
             Entry::Enter { input, .. } => self.enter(state, input, empty),
             Entry::Retried { retrier, .. } => mark(&mut self.retriers, *retrier),
             Entry::Caught { catcher, .. } => mark(&mut self.catchers, *catcher),
             // What a fault comes to is an entry of its own.
-            Entry::Raise { .. } => {}
             Entry::Task { .. }
             | Entry::Leave { .. }
+            | Entry::Raise { .. }
             | Entry::TaskFailed { .. }
             | Entry::BranchFailed { .. }
             | Entry::Ended { .. } => {}

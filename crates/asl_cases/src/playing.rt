@@ -28,14 +28,14 @@ use std::collections::VecDeque;
 
 /// A case that was played.
 #[derive(Drop)]
-pub struct Played {
+pub struct Played<'m> {
     /// How it ended.
     pub end: End,
-    /// What happened in its run.
-    pub trace: Vec<Entry>,
+    /// What happened in its run, whose machine lends the names of its states.
+    pub trace: Vec<Entry<'m>>,
 }
 
-impl Played {
+impl Played<'_> {
     /// How the run has ended; none where it hasn't.
     pub(crate) fn outcome(&self) -> Option<&Outcome>
         ensures { option_map (λ outcome. outcome_view outcome.now) result
@@ -49,7 +49,7 @@ impl Played {
 }
 
 /// The outcome of the run, where the entry tells its end.
-fn outcome_in(entry: &Entry) -> Option<&Outcome>
+fn outcome_in<'e>(entry: &'e Entry<'_>) -> Option<&'e Outcome>
     ensures { option_map (λ outcome. outcome_view outcome.now) result
         ≡ outcome_in (entry_view entry.now) }
 {
@@ -94,14 +94,14 @@ pub enum End {
 /// the shape that its task is declared to give; an answer that isn't is taken and not used.
 ///
 /// Refused: want of memory. The answers that were taken until then are gone.
-pub fn play(
+pub fn play<'m>(
     alloc: Global,
-    machine: &Machine,
+    machine: &'m Machine,
     declared: Option<&Declared>,
     input: Tree,
     answers: &mut CaseAnswers,
     max_steps: u64,
-) -> Result<Played, OutOfMemory>
+) -> Result<Played<'m>, OutOfMemory>
     ensures { let shapes = option_map (λ d. declared_view d.now) declared.entry in
         (m : Scope) → Shows machine.now m
         → let given = case_of m shapes (view input) (answers_under answers.old) in
@@ -119,14 +119,14 @@ pub fn play(
 }
 
 /// Plays a case whose input is of the declared shape.
-fn play_run(
+fn play_run<'m>(
     alloc: Global,
-    machine: &Machine,
+    machine: &'m Machine,
     declared: Option<&Declared>,
     input: Tree,
     answers: &mut CaseAnswers,
     max_steps: u64,
-) -> Result<Played, OutOfMemory>
+) -> Result<Played<'m>, OutOfMemory>
     ensures { let shapes = option_map (λ d. declared_view d.now) declared.entry in
         (m : Scope) → Shows machine.now m
         → let given = case_of m shapes (view input) (answers_under answers.old) in
@@ -162,13 +162,13 @@ fn fits_input(declared: Option<&Declared>, input: &Tree) -> bool
 }
 
 /// One step of the run, which the trace tells; how the case ends, where it does.
-fn take_step(
+fn take_step<'m>(
     alloc: Global,
-    machine: &Machine,
+    machine: &'m Machine,
     declared: Option<&Declared>,
-    run: &mut Run<'_>,
+    run: &mut Run<'m>,
     answers: &mut CaseAnswers,
-    trace: &mut Vec<Entry>,
+    trace: &mut Vec<Entry<'m>>,
 ) -> Result<Option<End>, OutOfMemory>
     ensures run { (m : Scope) → IsRunOf m run.old → IsRunOf m run.new }
     ensures steps { let shapes = option_map (λ d. declared_view d.now) declared.entry in
@@ -193,13 +193,13 @@ fn take_step(
 }
 
 /// Answers the task of that state, which was asked last and waits; how the case ends, where it does.
-fn answer(
+fn answer<'m>(
     alloc: Global,
-    machine: &Machine,
+    machine: &'m Machine,
     declared: Option<&Declared>,
-    run: &mut Run<'_>,
+    run: &mut Run<'m>,
     answers: &mut CaseAnswers,
-    trace: &mut Vec<Entry>,
+    trace: &mut Vec<Entry<'m>>,
     state: usize,
 ) -> Result<Option<End>, OutOfMemory>
     ensures run { (m : Scope) → IsRunOf m run.old → IsRunOf m run.new }
@@ -237,10 +237,10 @@ fn answer(
 }
 
 /// Takes the answer to a task that waits, which the trace tells; how the case ends, where it does.
-fn take_answer(
-    run: &mut Run<'_>,
+fn take_answer<'m>(
+    run: &mut Run<'m>,
     event: Event,
-    trace: &mut Vec<Entry>,
+    trace: &mut Vec<Entry<'m>>,
 ) -> Result<Option<End>, OutOfMemory>
     ensures run { (m : Scope) → IsRunOf m run.old → IsRunOf m run.new }
     ensures taken { (m : Scope) → IsRunOf m run.old

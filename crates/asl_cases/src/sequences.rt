@@ -49,11 +49,11 @@ fn name_at(path: &[String], step: usize) -> Option<&str>
 }
 
 /// The state that an entry says is entered.
-fn entered_state(entry: &Entry) -> Option<&str>
+fn entered_state<'m>(entry: &Entry<'m>) -> Option<&'m str>
     ensures { option_map (λ name. name.now) result ≡ entered_in (entry_view entry.now) }
 {
     match entry {
-        Entry::Enter { state, .. } => Some(state),
+        Entry::Enter { state, .. } => Some(*state),
         _ => None,
     }
 }
@@ -174,12 +174,12 @@ fn tree_at(payloads: &[Tree], number: usize) -> Option<&Tree>
 }
 
 /// The payload that an entry says the task of the state is asked with.
-fn payload_of<'e>(name: &str, entry: &'e Entry) -> Option<&'e Tree>
+fn payload_of<'e>(name: &str, entry: &'e Entry<'_>) -> Option<&'e Tree>
     ensures { option_map (λ tree. view tree.now) result
         ≡ asked_in name.now (entry_view entry.now) }
 {
     match entry {
-        Entry::Task { state, payload, .. } if state.as_str() == name => Some(payload),
+        Entry::Task { state, payload, .. } if *state == name => Some(payload),
         _ => None,
     }
 }

@@ -1,5 +1,5 @@
 -- What turns add to what was driven so far.
-use Rattle.std.proofs.Common.{◌≡◌, ℕ, ◌+◌, ◌<◌, List, [], ◌∷◌, ◌++◌, map, length, Some, sym, ap, ◌∙◌, refl, arith}
+use Rattle.std.proofs.Common.{◌≡◌, ℕ, ◌+◌, ◌<◌, List, [], ◌∷◌, ◌++◌, map, length, sym, ap, ◌∙◌, refl, arith}
 use Rattle.std.proofs.lemmas.List.{length-map}
 use Rattle.asl_model.specs.Tree.{Tree}
 use Rattle.asl_model.specs.Machine.{Scope}
@@ -49,7 +49,7 @@ no_turn_more c so_far still same = record {
 pub few_are_told : (machine : Scope) (before after : Activity) (event : Event) (entries : List code.Entry) → Takes machine before event (map entry_view entries) after → 4 < length entries → ⊥
 few_are_told machine before after event entries taken many =
     let few = few_entries machine before event taken.step taken.is in
-    let same : length entries ≡ length taken.step.entries = sym (length-map entries entry_view) ∙ ap length taken.tells ∙ length-map taken.step.entries (λ entry. (event.place, Some entry)) in
+    let same : length entries ≡ length taken.step.entries = sym (length-map entries entry_view) ∙ ap length taken.tells ∙ length-map taken.step.entries (λ entry. (event.place, entry)) in
     omega arith
 
 answer_alone : (answer : Answer) → answer_in (answer_view answer) ≡ answer_view answer ∷ []

@@ -1,13 +1,13 @@
 -- What is planned at a node of a table, over what is shown of its children.
 use Rattle.std.proofs.Common.{◌≡◌, ◌<◌, ◌↔◌, sym, ap, subst, arith, ℕ, List, length, slice_get, Bool, true, false, IsTrue, Option, Some, None, Result, Ok, Err, IfOk}
 use Rattle.asl_model.specs.Run as model
-use Rattle.asl_run.specs.Acting.{Acts}
+use Rattle.asl_run.specs.Acting.{Acts, action_of, names_for}
 use Rattle.asl_model.proofs.RunOptions.{none_some}
 use Rattle.asl_run.specs.Counting.{open_count}
 use Rattle.asl_run.specs.Enabling.{own_place, wanted_by}
 use Rattle.asl_run.specs.Nodes.{AreHeads, IsTable, in_table, range_of, shown_at, shown_from, shown_over}
 use Rattle.asl_run.specs.Standing.{children_of}
-use Rattle.asl_run.specs.Stepping.{IsPlanned, action_of, below_node, names_for}
+use Rattle.asl_run.specs.Stepping.{IsPlanned, below_node}
 use Rattle.asl_run.specs.declared.nodes.Node.{Node}
 use Rattle.asl_run.specs.declared.planning.Plan.{Plan}
 use Rattle.asl_run.specs.declared.stepping.Happening.{Happening}
@@ -18,7 +18,7 @@ use Rattle.asl_run.proofs.Tables.{heads_below, shown_here}
 
 -- a plan, or none, is right whatever is shown of the children
 abbrev pub PlansOver : Happening → Node → List Node → Option Plan → Type 0
-PlansOver happening node children plan = (below : List model.Activity) → AreHeads (names_for happening) children below → Acts happening.machine.now happening.at.now (children_of below) node (action_of happening) plan
+PlansOver happening node children plan = (below : List model.Activity) → AreHeads (names_for happening) children below → Acts happening (children_of below) node plan
 
 -- a kind of event is wanted or not, whatever is shown of the children
 abbrev pub WantsOver : Happening → Node → List Node → Bool → Type 0

@@ -7,11 +7,11 @@ use Rattle.asl_model.specs.Run.{activity_at, set_child}
 use Rattle.asl_model.specs.Tree.{Null}
 use Rattle.asl_model.proofs.RunOptions.{some_inj, none_some}
 use Rattle.asl_tree.specs.View.{view}
-use Rattle.asl_run.specs.Acting.{ActsSo}
+use Rattle.asl_run.specs.Acting.{ActsSo, action_of, names_for}
 use Rattle.asl_run.specs.Changing.{CanApply, IsApplied, IsChangedAt, changed}
 use Rattle.asl_run.specs.Nodes.{IsTable, child_number, in_table, number_from, shown_at, shown_from, shown_over}
 use Rattle.asl_run.specs.Standing.{children_of, name_in}
-use Rattle.asl_run.specs.Stepping.{IsPlanned, RefusesThere, Steps, StepsAt, action_of, below_node, names_for}
+use Rattle.asl_run.specs.Stepping.{IsPlanned, RefusesThere, Steps, StepsAt, below_node}
 use Rattle.asl_run.specs.declared.entries.Entry.{Entry}
 use Rattle.asl_run.specs.declared.nodes.Node.{Node}
 use Rattle.asl_run.specs.declared.planning.Plan.{Plan}
@@ -85,8 +85,8 @@ abbrev first_of : List model.Activity → model.Activity
 first_of shown = unwrap_or (slice_get shown 0) (model.Ready [] Null [])
 
 -- the plan that was made
-pub planned_so : (happening : Happening) (nodes : List Node) (j : ℕ) (r : Result Plan StepRefusal) (plan : Plan) → r ≡ Ok plan → (h : IsPlanned happening nodes j r) → ActsSo happening.machine.now happening.at.now (below_node happening nodes h.node) h.node (action_of happening) plan
-planned_so happening nodes j r plan is h = subst (λ x. IfOk x (λ p. ActsSo happening.machine.now happening.at.now (below_node happening nodes h.node) h.node (action_of happening) p)) is h.planned
+pub planned_so : (happening : Happening) (nodes : List Node) (j : ℕ) (r : Result Plan StepRefusal) (plan : Plan) → r ≡ Ok plan → (h : IsPlanned happening nodes j r) → ActsSo happening (below_node happening nodes h.node) h.node plan
+planned_so happening nodes j r plan is h = subst (λ x. IfOk x (λ p. ActsSo happening (below_node happening nodes h.node) h.node p)) is h.planned
 
 -- so what it changes can be changed
 pub planned_can : (happening : Happening) (nodes : List Node) (j : ℕ) (r : Result Plan StepRefusal) (plan : Plan) → r ≡ Ok plan → IsPlanned happening nodes j r → (node : Node) → slice_get nodes j ≡ Some node → CanApply node plan.change

@@ -12,14 +12,14 @@ use Rattle.asl_model.specs.Numbering.{HasNamed, IsScopeOf, Table, outline, table
 use Rattle.asl_model.specs.Run as model
 use Rattle.asl_model.proofs.Outlines.{moves_ready_outlined, moves_waiting_outlined, moves_split_outlined}
 use Rattle.asl_model.proofs.RunOptions.{some_inj, none_some, there_some}
-use Rattle.asl_run.specs.Acting.{Acts, ActsSo, StandsAt, moves}
+use Rattle.asl_run.specs.Acting.{Acts, ActsSo, StandsAt, action_of, moves, names_for}
 use Rattle.asl_run.specs.Changing.{changed, visit_in}
 use Rattle.asl_run.specs.Enabling.{wanted_by}
 use Rattle.asl_run.specs.Entries.{answer_view, entry_view}
 use Rattle.asl_run.specs.Leading.{LeadsOn}
 use Rattle.asl_run.specs.Standing.{StandsIn, name_in}
 use Rattle.asl_run.specs.Nodes.{shown_over}
-use Rattle.asl_run.specs.Stepping.{RefusesThere, Steps, names_for, action_of}
+use Rattle.asl_run.specs.Stepping.{RefusesThere, Steps}
 use Rattle.asl_run.specs.declared.activities.Visit.{Visit}
 use Rattle.asl_run.specs.declared.entries.Answer.{Answer}
 use Rattle.asl_run.specs.declared.entries.Answer.TheVariants as answers
@@ -142,7 +142,7 @@ abbrev pub seen_over : Happening → model.Activities → Node → model.Activit
 seen_over happening below node = shown_over (names_for happening) below node
 
 -- a plan that is carried out
-pub taken_here : (happening : Happening) (below : model.Activities) (node : Node) (after : model.Activity) (plan : Plan) (entries : Vec _ Global) → entries ≡ plan.entries → ActsSo happening.machine.now happening.at.now below node (action_of happening) plan
+pub taken_here : (happening : Happening) (below : model.Activities) (node : Node) (after : model.Activity) (plan : Plan) (entries : Vec _ Global) → entries ≡ plan.entries → ActsSo happening below node plan
     → ((visit : Visit) → visit_in node ≡ Some visit → after ≡ changed (names_for happening) visit plan.change) → Steps happening.machine.now happening.at.now [] (seen_over happening below node) after (action_of happening) (Ok entries)
 taken_here happening below node after plan entries same acts now = record {
   steps = λ m scope shown inside stands.
@@ -162,7 +162,7 @@ taken_here happening below node after plan entries same acts now = record {
 }
 
 -- a plan that isn't carried out, for want of memory
-pub refused_here : (happening : Happening) (below : model.Activities) (node : Node) (plan : Plan) → ActsSo happening.machine.now happening.at.now below node (action_of happening) plan → RefusesThere happening.machine.now (seen_over happening below node) (action_of happening) OutOfMemory
+pub refused_here : (happening : Happening) (below : model.Activities) (node : Node) (plan : Plan) → ActsSo happening below node plan → RefusesThere happening.machine.now (seen_over happening below node) (action_of happening) OutOfMemory
 refused_here happening below node plan acts = record {
   refuses = λ m scope shown inside stands.
       let names = names_for happening in
@@ -172,7 +172,7 @@ refused_here happening below node plan acts = record {
 }
 
 -- no plan is made
-pub not_here : (happening : Happening) (below : model.Activities) (node : Node) → Acts happening.machine.now happening.at.now below node (action_of happening) None → RefusesThere happening.machine.now (seen_over happening below node) (action_of happening) NotEnabled
+pub not_here : (happening : Happening) (below : model.Activities) (node : Node) → Acts happening below node None → RefusesThere happening.machine.now (seen_over happening below node) (action_of happening) NotEnabled
 not_here happening below node acts = record { refuses = λ m scope shown inside stands. (refl, none m scope shown inside stands (visit_in node) refl) }
   where
     names : List (List ℕ)
@@ -240,8 +240,8 @@ pub so_wanted : (wanted : Bool) (own : Option model.Want) (kind : model.Want) �
 so_wanted wanted own kind told is = told.0 is
 
 -- a plan was made
-pub planned : {E : Type 0} (happening : Happening) (below : model.Activities) (node : Node) (plan : Plan) (made : Result (Option Plan) E) → made ≡ Ok (Some plan) → IfOk made (λ p. Acts happening.machine.now happening.at.now below node (action_of happening) p)
-    → ActsSo happening.machine.now happening.at.now below node (action_of happening) plan
+pub planned : {E : Type 0} (happening : Happening) (below : model.Activities) (node : Node) (plan : Plan) (made : Result (Option Plan) E) → made ≡ Ok (Some plan) → IfOk made (λ p. Acts happening below node p)
+    → ActsSo happening below node plan
 planned {E = E} happening below node plan made is acts =
-    let known : IfOk {E = E} (Ok (Some plan)) (λ p. Acts happening.machine.now happening.at.now below node (action_of happening) p) = subst (λ r. IfOk r (λ p. Acts happening.machine.now happening.at.now below node (action_of happening) p)) is acts in
+    let known : IfOk {E = E} (Ok (Some plan)) (λ p. Acts happening below node p) = subst (λ r. IfOk r (λ p. Acts happening below node p)) is acts in
     known.planned

@@ -4,8 +4,8 @@ use Rattle.std.specs.Prelude.{All}
 use Rattle.std.proofs.lemmas.List.Elements.{All-append, All-nil, All-cons, All-weaker}
 use Rattle.asl_model.specs.Tree.{Tree}
 use Rattle.asl_model.specs.Machine.{Scope}
-use Rattle.asl_model.specs.Run.{Activity, Action, Event, Entry, Step, Turn, activity_at, after_step, run, step, trace, entries_of, last_activity}
-use Rattle.asl_run.specs.Driving.{answer_in, answers_among, Policy, Stage, Told, MayHappen, any_move, answer_given, IsPicked, IsTaken, placed_entry, Drives}
+use Rattle.asl_model.specs.Run.{Activity, Action, Event, Step, Turn, activity_at, after_step, run, step, trace, entries_of, last_activity}
+use Rattle.asl_run.specs.Driving.{answer_in, answers_among, Policy, Stage, MayHappen, any_move, answer_given, IsPicked, IsTaken, Drives}
 
 -- the turns of events in a row
 pub run_append : (machine : Scope) (a b : Activity) (xs ys : List Event) → last_activity a (run machine a xs) ≡ b → run machine a (xs ++ ys) ≡ run machine a xs ++ run machine b ys
@@ -14,23 +14,20 @@ run_append machine a b (x ∷ xs) ys e =
     let turn : Turn = record { before = a; event = x; taken = step machine a x } in
     ap (λ (v : List Turn). turn ∷ v) (run_append machine (after_step a (step machine a x)) b xs ys e)
 
-trace_append : (s t : List Turn) → trace (s ++ t) ≡ trace s ++ trace t
+-- and what they tell and leave
+pub trace_append : (s t : List Turn) → trace (s ++ t) ≡ trace s ++ trace t
 trace_append [] t = refl
 trace_append (turn ∷ s) t =
     let here = map (λ entry. (turn.event.place, entry)) (entries_of turn.taken) in
     ap (λ v. here ++ v) (trace_append s t) ∙ sym (append_assoc here (trace s) (trace t))
 
-last_append : (a : Activity) (s t : List Turn) → last_activity a (s ++ t) ≡ last_activity (last_activity a s) t
+pub last_append : (a : Activity) (s t : List Turn) → last_activity a (s ++ t) ≡ last_activity (last_activity a s) t
 last_append a [] t = refl
 last_append a (turn ∷ s) t = last_append (after_step turn.before turn.taken) s t
 
 answers_append : (xs ys : List Event) → answers_among (xs ++ ys) ≡ answers_among xs ++ answers_among ys
 answers_append [] ys = refl
 answers_append (x ∷ xs) ys = ap (λ v. answer_in x.action ++ v) (answers_append xs ys) ∙ sym (append_assoc (answer_in x.action) (answers_among xs) (answers_among ys))
-
-map_append : {A B : Type 0} (f : A → B) (xs ys : List A) → map f (xs ++ ys) ≡ map f xs ++ map f ys
-map_append f [] ys = refl
-map_append f (x ∷ xs) ys = ap (λ v. f x ∷ v) (map_append f xs ys)
 
 -- no event leaves all as it is
 pub drives_none : (policy : Policy) (machine : Scope) (stage : Stage) → Drives policy machine 0 stage stage
@@ -48,13 +45,13 @@ pub drives_one : (policy : Policy) (machine : Scope) (before after : Stage) (eve
     → step machine before.activity event ≡ Some taken → IsPicked policy.may_pick machine before.activity event.place
     → MayHappen policy.may_give (activity_at event.place before.activity) event.action
     → before.answers ≡ answer_in event.action ++ after.answers
-    → after.told ≡ before.told ++ map (λ entry. (event.place, Some entry)) taken.entries → taken.after ≡ after.activity
+    → after.told ≡ before.told ++ map (λ entry. (event.place, entry)) taken.entries → taken.after ≡ after.activity
     → Drives policy machine 1 before after
 drives_one policy machine before after event taken is picked may answered told stands =
     let turn : Turn = record { before = before.activity; event = event; taken = step machine before.activity event } in
     let P : Turn → Type 0 = IsTaken policy machine in
-    let placed : map placed_entry (trace (run machine before.activity (event ∷ []))) ≡ map (λ entry. (event.place, Some entry)) taken.entries =
-    rw is (ap (map placed_entry) (append-nil (map (λ entry. (event.place, entry)) taken.entries)) ∙ map_map taken.entries) in
+    let placed : trace (run machine before.activity (event ∷ [])) ≡ map (λ entry. (event.place, entry)) taken.entries =
+    rw is (append-nil (map (λ entry. (event.place, entry)) taken.entries)) in
     record {
       events = event ∷ [];
       counted = refl;
@@ -63,10 +60,6 @@ drives_one policy machine before after event taken is picked may answered told s
       traced = told ∙ ap (λ v. before.told ++ v) (sym placed);
       stands = rw is stands;
     }
-  where
-    map_map : (es : List Entry) → map placed_entry (map (λ entry. (event.place, entry)) es) ≡ map (λ entry. (event.place, Some entry)) es
-    map_map [] = refl
-    map_map (e ∷ es) = ap (λ (v : Told). (event.place, Some e) ∷ v) (map_map es)
 
 -- events after events
 pub drives_then : {policy : Policy} {machine : Scope} {a b c : Stage} {m n : ℕ}
@@ -75,8 +68,7 @@ drives_then {policy = policy} {machine = machine} {a = a} {b = b} {c = c} {m = m
     let s = run machine a.activity d.events in
     let t = run machine b.activity e.events in
     let rows : run machine a.activity (d.events ++ e.events) ≡ s ++ t = run_append machine a.activity b.activity d.events e.events d.stands in
-    let entries : map placed_entry (trace s) ++ map placed_entry (trace t) ≡ map placed_entry (trace (run machine a.activity (d.events ++ e.events))) =
-    sym (map_append placed_entry (trace s) (trace t)) ∙ ap (map placed_entry) (sym (trace_append s t)) ∙ ap (λ v. map placed_entry (trace v)) (sym rows) in
+    let entries : trace s ++ trace t ≡ trace (run machine a.activity (d.events ++ e.events)) = sym (trace_append s t) ∙ ap trace (sym rows) in
     record {
       events = d.events ++ e.events;
       counted = length-append d.events e.events ∙ ap (λ k. k + length e.events) d.counted ∙ ap (λ k. m + k) e.counted;
@@ -84,8 +76,7 @@ drives_then {policy = policy} {machine = machine} {a = a} {b = b} {c = c} {m = m
       answered = d.answered ∙ ap (λ v. answers_among d.events ++ v) e.answered
           ∙ sym (append_assoc (answers_among d.events) (answers_among e.events) c.answers)
           ∙ ap (λ v. v ++ c.answers) (sym (answers_append d.events e.events));
-      traced = e.traced ∙ ap (λ v. v ++ map placed_entry (trace t)) d.traced
-          ∙ append_assoc a.told (map placed_entry (trace s)) (map placed_entry (trace t)) ∙ ap (λ v. a.told ++ v) entries;
+      traced = e.traced ∙ ap (λ v. v ++ trace t) d.traced ∙ append_assoc a.told (trace s) (trace t) ∙ ap (λ v. a.told ++ v) entries;
       stands = ap (last_activity a.activity) rows ∙ last_append a.activity s t ∙ ap (λ x. last_activity x t) d.stands ∙ e.stands;
     }
 

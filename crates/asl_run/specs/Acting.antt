@@ -1,5 +1,6 @@
 -- What is to be done in one step at one place.
-use Rattle.std.specs.Prelude.{◌≡◌, ℕ, List, map, Option, Some, None, IfSome, slice_get}
+use Rattle.std.specs.Prelude.{◌≡◌, ℕ, List, map, Option, Some, None, IfSome, option_map, slice_get}
+use Rattle.std.specs.Option.{unwrap_or}
 use Rattle.asl_states.specs.Machine.{kind_view, settings_view, state_view}
 use Rattle.asl_states.specs.Table.{states_in, table_view}
 use Rattle.asl_states.specs.declared.machine.Machine.{Machine}
@@ -10,7 +11,7 @@ use Rattle.asl_model.specs.Run as model
 use Rattle.asl_model.specs.Tree.{Tree}
 use Rattle.asl_tree.specs.View.{view}
 use Rattle.asl_run.specs.Changing.{CanApply, changed, visit_in}
-use Rattle.asl_run.specs.Entries.{entry_view}
+use Rattle.asl_run.specs.Entries.{answer_view, entry_view}
 use Rattle.asl_run.specs.Leading.{Leads, LeadsOn}
 use Rattle.asl_run.specs.Nodes.{shown_over}
 use Rattle.asl_run.specs.Standing.{name_in}
@@ -21,13 +22,24 @@ use Rattle.asl_run.specs.declared.changing.Change.TheVariants.{Retry}
 use Rattle.asl_run.specs.declared.nodes.Node.{Node}
 use Rattle.asl_run.specs.declared.planning.Here.{Here}
 use Rattle.asl_run.specs.declared.planning.Plan.{Plan}
+use Rattle.asl_run.specs.declared.stepping.Happening.{Happening}
 use Rattle.asl_run.specs.declared.working.Work.{Work}
+
+-- ---- what happens at a place
+
+-- the names of the machine's states, by number
+abbrev pub names_for : Happening → List (List ℕ)
+names_for happening = (table_view happening.machine.now).names
+
+-- the answer, or without one a move
+abbrev pub action_of : Happening → model.Action
+action_of happening = unwrap_or (option_map (λ a. answer_view a.now) happening.answer) model.Move
 
 -- ---- one execution of a state, where it stands
 
 -- the names of the machine's states, by number
 abbrev pub names_at : Here → List (List ℕ)
-names_at here = (table_view here.machine.now).names
+names_at here = names_for here.happening
 
 -- the state, without the states of its scopes
 abbrev pub state_at : Here → State
@@ -63,14 +75,14 @@ pub record MayCome (here : Here) (work : Work) : Type 0 where
 
 -- ---- plans
 
--- an entry with its place, as the code's entries are seen
-abbrev pub told_at : List ℕ → model.Entry → List ℕ × Option model.Entry
-told_at place entry = (place, Some entry)
+-- an entry with its place
+abbrev pub told_at : List ℕ → model.Entry → List ℕ × model.Entry
+told_at place entry = (place, entry)
 
 -- A plan is that of a step: its entries are the step's, at the place; its change leaves what the step leaves; a count
 -- that is to rise can.
 pub record Plans (here : Here) (plan : Plan) (step : model.Step) : Type 0 where
-  pub told : map entry_view plan.entries.items ≡ map (told_at here.at.now) step.entries
+  pub told : map entry_view plan.entries.items ≡ map (told_at here.happening.at.now) step.entries
   pub left : IsAt here → changed (names_at here) here.visit.now plan.change ≡ step.after
   pub rises : (i : ℕ) → plan.change ≡ Retry i → CanRise here.visit.now.counts.items i
 
@@ -140,14 +152,13 @@ pub record HasNoVisit (node : Node) : Type 0 where
   pub does : (names : List (List ℕ)) (below : model.Activities) (action : model.Action)
       (state : State) → moves (shown_over names below node) action state ≡ None
 
--- an execution with its state, as the machine has it by its number, at that place and in that node
-pub record IsFoundBy (machine : Machine) (place : List ℕ) (node : Node) (here : Here) : Type 0 where
-  pub same_machine : here.machine.now ≡ machine
-  pub same_place : here.at.now ≡ place
+-- the execution that stands in the node, with its state, as the machine has it by its number
+pub record IsFoundIn (node : Node) (here : Here) : Type 0 where
   pub visit : IsVisitOf node here.visit.now
-  pub name : slice_get (table_view machine).names here.visit.now.state ≡ Some here.name.now
-  pub state : slice_get (table_view machine).states here.visit.now.state ≡ Some (state_at here)
-  pub stored : slice_get (states_in machine) here.visit.now.state ≡ Some here.state.now
+  pub name : slice_get (names_at here) here.visit.now.state ≡ Some here.name.now
+  pub state : slice_get (table_view here.happening.machine.now).states here.visit.now.state
+      ≡ Some (state_at here)
+  pub stored : slice_get (states_in here.happening.machine.now) here.visit.now.state ≡ Some here.state.now
 
 -- no action does anything at the node
 pub record DoesNothing (machine : Machine) (node : Node) : Type 0 where
@@ -155,33 +166,28 @@ pub record DoesNothing (machine : Machine) (node : Node) : Type 0 where
       → IfSome (visit_in node) (λ visit. StandsAt machine visit state)
       → moves (shown_over (table_view machine).names below node) action state ≡ None
 
--- the plan does what the step does where that execution stands
-pub record Does (names : List (List ℕ)) (place : List ℕ) (visit : Visit) (plan : Plan)
-    (step : model.Step) : Type 0 where
-  pub told : map entry_view plan.entries.items ≡ map (told_at place) step.entries
-  pub left : changed names visit plan.change ≡ step.after
+-- the plan does what the step does where that happens to the execution
+pub record Does (happening : Happening) (visit : Visit) (plan : Plan) (step : model.Step) : Type 0 where
+  pub told : map entry_view plan.entries.items ≡ map (told_at happening.at.now) step.entries
+  pub left : changed (names_for happening) visit plan.change ≡ step.after
 
 -- there is a step, and the plan does it
-pub record DoesOne (names : List (List ℕ)) (place : List ℕ) (visit : Visit) (plan : Plan)
-    (step : Option model.Step) : Type 0 where
+pub record DoesOne (happening : Happening) (visit : Visit) (plan : Plan) (step : Option model.Step) : Type 0 where
   pub that : model.Step
   pub is : step ≡ Some that
-  pub does : Does names place visit plan that
+  pub does : Does happening visit plan that
 
--- a plan is that of what the action does at the node over these children
-pub record ActsSo (machine : Machine) (place : List ℕ) (below : model.Activities) (node : Node)
-    (action : model.Action) (plan : Plan) : Type 0 where
+-- a plan is that of what happens at the node over these children
+pub record ActsSo (happening : Happening) (below : model.Activities) (node : Node) (plan : Plan) : Type 0 where
   pub visit : Visit
   pub stands : visit_in node ≡ Some visit
   pub rises : CanApply node plan.change
-  pub does : (state : State) → StandsAt machine visit state
-      → DoesOne (table_view machine).names place visit plan
-      (moves (shown_over (table_view machine).names below node) action state)
+  pub does : (state : State) → StandsAt happening.machine.now visit state → DoesOne happening visit plan
+      (moves (shown_over (names_for happening) below node) (action_of happening) state)
 
--- so is the plan, if there is one; there is none only where the action does nothing there
-pub record Acts (machine : Machine) (place : List ℕ) (below : model.Activities) (node : Node)
-    (action : model.Action) (plan : Option Plan) : Type 0 where
-  pub planned : IfSome plan (λ p. ActsSo machine place below node action p)
+-- so is the plan, if there is one; there is none only where it does nothing there
+pub record Acts (happening : Happening) (below : model.Activities) (node : Node) (plan : Option Plan) : Type 0 where
+  pub planned : IfSome plan (ActsSo happening below node)
   pub nothing : plan ≡ None → (state : State)
-      → IfSome (visit_in node) (λ visit. StandsAt machine visit state)
-      → moves (shown_over (table_view machine).names below node) action state ≡ None
+      → IfSome (visit_in node) (λ visit. StandsAt happening.machine.now visit state)
+      → moves (shown_over (names_for happening) below node) (action_of happening) state ≡ None

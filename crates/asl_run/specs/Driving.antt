@@ -33,9 +33,9 @@ policy_of may_pick may_give may_be_silent = record {
   may_be_silent = may_be_silent;
 }
 
--- what is told of a run: entries with their places, as the code's entries are seen
+-- what is told of a run: entries with their places
 abbrev pub Told : Type 0
-Told = List (List ℕ × Option Entry)
+Told = List (List ℕ × Entry)
 
 -- How far a run is driven: what stands there, which answers are left for its tasks, and what was told of it so far.
 pub record Stage : Type 0 where
@@ -99,10 +99,6 @@ pub record IsTaken (policy : Policy) (machine : Scope) (turn : Turn) : Type 0 wh
 
 -- ---- a run that is driven
 
--- an entry with its place, as the code's entries are seen
-abbrev pub placed_entry : List ℕ × Entry → List ℕ × Option Entry
-placed_entry told = (told.0, Some told.1)
-
 -- That many events, all enabled and each at a place that may be picked, lead a run from one stage to another. Their
 -- answers, in order, are those that stand before the ones that are left, and each may be given where it is taken.
 -- Behind what was told before, what they add to the run's history is told.
@@ -111,7 +107,7 @@ pub record Drives (policy : Policy) (machine : Scope) (count : ℕ) (before afte
   pub counted : length events ≡ count
   pub taken : All (IsTaken policy machine) (run machine before.activity events)
   pub answered : before.answers ≡ answers_among events ++ after.answers
-  pub traced : after.told ≡ before.told ++ map placed_entry (trace (run machine before.activity events))
+  pub traced : after.told ≡ before.told ++ trace (run machine before.activity events)
   pub stands : last_activity before.activity (run machine before.activity events) ≡ after.activity
 
 -- a task waits at the place, and no answer may come for its payload; that is its state's name
@@ -197,7 +193,7 @@ pub record IsTold (machine : Scope) (before : Activity) (event : Event) (told lo
     (after : Activity) : Type 0 where
   pub step : Step
   pub enabled : model.step machine before event ≡ Some step
-  pub grown : longer ≡ told ++ map (λ entry. (event.place, Some entry)) step.entries
+  pub grown : longer ≡ told ++ map (λ entry. (event.place, entry)) step.entries
   pub stands : after ≡ step.after
 
 -- nothing has happened, and nothing was told

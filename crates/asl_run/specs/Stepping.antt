@@ -1,14 +1,13 @@
 -- Steps of a run, as the definitions have them.
-use Rattle.std.specs.Prelude.{◌≡◌, ℕ, List, map, Option, Some, None, Result, IfOk, IfErr, Vec, option_map, slice_get}
-use Rattle.std.specs.Option.{IsSome, unwrap_or}
-use Rattle.asl_run.specs.Acting.{ActsSo}
-use Rattle.asl_run.specs.Entries.{answer_view}
+use Rattle.std.specs.Prelude.{◌≡◌, ℕ, List, map, Option, Some, None, Result, IfOk, IfErr, Vec, slice_get}
+use Rattle.std.specs.Option.{IsSome}
+use Rattle.asl_run.specs.Acting.{ActsSo, action_of, names_for}
 use Rattle.asl_run.specs.Nodes.{in_table, range_of, shown_at, shown_from, shown_over}
 use Rattle.asl_run.specs.declared.nodes.Node.{Node}
 use Rattle.asl_run.specs.declared.planning.Plan.{Plan}
 use Rattle.asl_run.specs.declared.stepping.Happening.{Happening}
 use Rattle.std.specs.declared.alloc.Global.{Global}
-use Rattle.asl_states.specs.Table.{Shows, table_view}
+use Rattle.asl_states.specs.Table.{Shows}
 use Rattle.asl_states.specs.declared.machine.Machine.{Machine}
 use Rattle.asl_model.specs.Machine.{Scope}
 use Rattle.asl_model.specs.Numbering.{IsScopeOf}
@@ -21,15 +20,15 @@ use Rattle.asl_run.specs.declared.stepping.StepRefusal.TheVariants.{NoSuchPlace,
 
 -- a step is defined; its entries are told, with that place, and it leaves what stands after it
 pub record IsStep (at : List ℕ) (defined : Option model.Step)
-    (told : List (List ℕ × Option model.Entry)) (after : model.Activity) : Type 0 where
+    (told : List (List ℕ × model.Entry)) (after : model.Activity) : Type 0 where
   pub step : model.Step
   pub is : defined ≡ Some step
-  pub tells : told ≡ map (λ entry. (at, Some entry)) step.entries
+  pub tells : told ≡ map (λ entry. (at, entry)) step.entries
   pub left : after ≡ step.after
 
 -- the machine takes the event so
 abbrev pub Takes : Scope → model.Activity → model.Event
-    → List (List ℕ × Option model.Entry) → model.Activity → Type 0
+    → List (List ℕ × model.Entry) → model.Activity → Type 0
 Takes m before event told after = IsStep event.place (model.step m before event) told after
 
 -- what a refusal says of the step of an activity
@@ -52,14 +51,6 @@ pub record Steps (machine : Machine) (at place : List ℕ) (before after : model
     (action : model.Action) (r : Result (Vec Entry Global) StepRefusal) : Type 0 where
   pub steps : (m scope : Scope) → Shows machine m → IsScopeOf m scope → StandsIn before scope
       → StepsIn scope at place before after action r
-
--- the names of the machine's states, by number
-abbrev pub names_for : Happening → List (List ℕ)
-names_for happening = (table_view happening.machine.now).names
-
--- the answer, or without one a move
-abbrev pub action_of : Happening → model.Action
-action_of happening = unwrap_or (option_map (λ a. answer_view a.now) happening.answer) model.Move
 
 -- an answer to what happens to a table of nodes is right
 pub record StepsAt (happening : Happening) (before after : List Node)
@@ -84,8 +75,7 @@ pub record IsPlanned (happening : Happening) (nodes : List Node) (i : ℕ)
     (r : Result Plan StepRefusal) : Type 0 where
   pub node : Node
   pub there : slice_get nodes i ≡ Some node
-  pub planned : IfOk r (λ plan. ActsSo happening.machine.now happening.at.now
-      (below_node happening nodes node) node (action_of happening) plan)
+  pub planned : IfOk r (ActsSo happening (below_node happening nodes node) node)
   pub refused : IfErr r (λ refusal. RefusesThere happening.machine.now
       (shown_over (names_for happening) (below_node happening nodes node) node)
       (action_of happening) refusal)

@@ -1,10 +1,9 @@
 //! One step at one place (States Language, "State Types", "Errors").
 
-ghost use Rattle.std.specs.Prelude.{◌≡◌, List, IfOk, IfSome, None, option_map};
-ghost use Rattle.std.specs.Option.{unwrap_or};
-ghost use Rattle.asl_states.specs.Table.{table_view};
+ghost use Rattle.std.specs.Prelude.{◌≡◌, List, IfOk, IfSome, None};
 ghost use Rattle.asl_model.specs.Run as model;
-ghost use Rattle.asl_run.specs.Acting.{Acts, DoesNothing, HasNoVisit, IsFoundBy, IsVisitOf, Plans, PlansAs, PlansOne, by_settings, moves_at, names_at, takes_at};
+ghost use Rattle.asl_run.specs.Acting.{Acts, DoesNothing, HasNoVisit, IsFoundIn, IsVisitOf, Plans, PlansAs, PlansOne};
+ghost use Rattle.asl_run.specs.Acting.{action_of, by_settings, moves_at, names_at, names_for, takes_at};
 ghost use Rattle.asl_run.specs.Entries.{answer_view};
 ghost use Rattle.asl_run.specs.Nodes.{AreHeads};
 ghost use Rattle.asl_run.specs.Standing.{children_of};
@@ -13,58 +12,49 @@ use crate::activities::Visit;
 use crate::data::Data;
 use crate::entering::enter;
 use crate::entries::Answer;
+use crate::failing::in_trouble;
 use crate::joining::join;
 use crate::leaving::finish;
 use crate::nodes::Node;
 use crate::planning::{Here, Plan};
-use crate::troubling::in_trouble;
-use asl_states::Machine;
+use crate::stepping::Happening;
 use asl_tree::OutOfMemory;
-use std::alloc::Global;
 
-/// What an answer, or without one a move, is to do at that place, where this node stands over these children; none
-/// where it isn't enabled there. Nothing is changed yet.
-pub(crate) fn plan(
-    alloc: Global,
-    machine: &Machine,
-    at: &[usize],
-    node: &Node,
-    children: &[Node],
-    answer: Option<&Answer>,
-) -> Result<Option<Plan>, OutOfMemory>
-    ensures { IfOk result (λ plan. (below : List model.Activity)
-        → AreHeads (table_view machine.now).names children.now below
-        → Acts machine.now at.now (children_of below) node.now
-        (unwrap_or (option_map (λ a. answer_view a.now) answer.entry) model.Move) plan) }
-{
-    match find(alloc, machine, at, node) {
-        Some(here) => act(&here, node, children, answer),
-        None => Ok(None),
+impl<'h, 'm> Happening<'h, 'm> {
+    /// What is to be done where this node stands over these children; none where what happens isn't enabled there. Nothing
+    /// is changed yet.
+    pub(crate) fn plan(
+        self,
+        node: &'h Node,
+        children: &[Node],
+    ) -> Result<Option<Plan<'m>>, OutOfMemory>
+        ensures { IfOk result (λ plan. (below : List model.Activity)
+            → AreHeads (names_for self.entry) children.now below
+            → Acts self.entry (children_of below) node.now plan) }
+    {
+        match self.find(node) {
+            Some(here) => act(&here, node, children),
+            None => Ok(None),
+        }
     }
-}
 
-/// The execution that stands there with its state, which is found in the machine by its number; none where the scope
-/// has ended.
-fn find<'m>(
-    alloc: Global,
-    machine: &'m Machine,
-    at: &'m [usize],
-    node: &'m Node,
-) -> Option<Here<'m>>
-    ensures found { IfSome result (λ here. IsFoundBy machine.now at.now node.now here) }
-    ensures missing { result ≡ None → DoesNothing machine.now node.now }
-{
-    let visit = visit_of(node)?;
-    let name = machine.name(visit.state)?;
-    let state = machine.state(visit.state)?;
-    Some(Here {
-        alloc,
-        machine,
-        at,
-        name,
-        state,
-        visit,
-    })
+    /// The execution that stands there with its state, which is found in the machine by its number; none where the scope
+    /// has ended.
+    fn find(self, node: &'h Node) -> Option<Here<'h, 'm>>
+        ensures found { IfSome result (IsFoundIn node.now) }
+        ensures here { IfSome result (λ here. here.happening ≡ self.entry) }
+        ensures missing { result ≡ None → DoesNothing self.entry.machine.now node.now }
+    {
+        let visit = visit_of(node)?;
+        let name = self.machine.name(visit.state)?;
+        let state = self.machine.state(visit.state)?;
+        Some(Here {
+            happening: self,
+            name,
+            state,
+            visit,
+        })
+    }
 }
 
 /// The execution of a state that stands there; none where the scope has ended.
@@ -80,26 +70,29 @@ fn visit_of(node: &Node) -> Option<&Visit>
     }
 }
 
-/// What an answer, or without one a move, is to do where that execution stands.
-fn act(
-    here: &Here,
+/// What is to be done where that execution stands.
+fn act<'m>(
+    here: &Here<'_, 'm>,
     node: &Node,
     children: &[Node],
-    answer: Option<&Answer>,
-) -> Result<Option<Plan>, OutOfMemory>
+) -> Result<Option<Plan<'m>>, OutOfMemory>
     ensures { IfOk result (λ plan. (below : List model.Activity)
         → AreHeads (names_at here.now) children.now below
         → PlansAs here.now plan (moves_at here.now (children_of below) node.now
-        (unwrap_or (option_map (λ a. answer_view a.now) answer.entry) model.Move))) }
+        (action_of here.now.happening))) }
 {
-    match answer {
+    match here.happening.answer {
         Some(answer) => take(here, node, answer),
         None => make_move(here, node, children),
     }
 }
 
 /// What a move is to do there.
-fn make_move(here: &Here, node: &Node, children: &[Node]) -> Result<Option<Plan>, OutOfMemory>
+fn make_move<'m>(
+    here: &Here<'_, 'm>,
+    node: &Node,
+    children: &[Node],
+) -> Result<Option<Plan<'m>>, OutOfMemory>
     ensures { IfOk result (λ plan. (below : List model.Activity)
         → AreHeads (names_at here.now) children.now below
         → PlansAs here.now plan (moves_at here.now (children_of below) node.now model.Move)) }
@@ -116,7 +109,11 @@ fn make_move(here: &Here, node: &Node, children: &[Node]) -> Result<Option<Plan>
 }
 
 /// What an answer is to do there.
-fn take(here: &Here, node: &Node, answer: &Answer) -> Result<Option<Plan>, OutOfMemory>
+fn take<'m>(
+    here: &Here<'_, 'm>,
+    node: &Node,
+    answer: &Answer,
+) -> Result<Option<Plan<'m>>, OutOfMemory>
     ensures { IfOk result (λ plan. (below : model.Activities)
         → PlansAs here.now plan (moves_at here.now below node.now (answer_view answer.now))) }
 {
@@ -132,18 +129,18 @@ fn take(here: &Here, node: &Node, answer: &Answer) -> Result<Option<Plan>, OutOf
 }
 
 /// The Task takes the answer that it waits for.
-fn take_on(here: &Here, answer: &Answer) -> Result<Plan, OutOfMemory>
+fn take_on<'m>(here: &Here<'_, 'm>, answer: &Answer) -> Result<Plan<'m>, OutOfMemory>
     ensures { IfOk result
         (λ plan. PlansOne here.now plan (takes_at here.now (answer_view answer.now))) }
 {
     match answer {
-        Answer::Gives(tree) => finish(here, Data::Lent(tree)),
+        Answer::Gives(value) => finish(here, Data::Shared(value)),
         Answer::Fails { error, cause } => fail(here, error, cause),
     }
 }
 
 /// The Task's task has failed: the state is in trouble.
-fn fail(here: &Here, error: &str, cause: &str) -> Result<Plan, OutOfMemory>
+fn fail<'m>(here: &Here<'_, 'm>, error: &str, cause: &str) -> Result<Plan<'m>, OutOfMemory>
     ensures { IfOk result (λ plan. Plans here.now plan
         (model.entry_then (model.TaskFailed here.now.name.now error.now cause.now)
         (by_settings model.troubled here.now error.now cause.now))) }

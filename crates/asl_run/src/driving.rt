@@ -41,8 +41,8 @@ pub enum Stop {
 
 /// Driving was broken off by want of memory: the run stands after the events that its trace tells.
 #[derive(Drop)]
-pub struct DriveRefusal {
-    pub trace: Vec<Entry>,
+pub struct DriveRefusal<'m> {
+    pub trace: Vec<Entry<'m>>,
     /// The answer that was taken from the source and not used.
     pub answer: Option<Answer>,
 }
@@ -60,12 +60,12 @@ pub(crate) enum Pause {
 /// waits and the source has no answer for it. It tells what has happened.
 ///
 /// Refused: want of memory.
-pub fn drive<O: Order, A: Answers>(
-    run: &mut Run,
+pub fn drive<'m, O: Order, A: Answers>(
+    run: &mut Run<'m>,
     order: &mut O,
     answers: &mut A,
     max_steps: u64,
-) -> Result<(Stop, Vec<Entry>), DriveRefusal>
+) -> Result<(Stop, Vec<Entry<'m>>), DriveRefusal<'m>>
     ensures run { (m : Scope) → IsRunOf m run.old → IsRunOf m run.new }
     ensures stops { (m : Scope) → IsRunOf m run.old
         → let policy = policy_of (O.may_pick order.old) (A.may_give answers.old)
@@ -118,11 +118,11 @@ fn how_ended(run: &Run) -> Option<Stop>
 /// One turn of a run that hasn't ended: an event at the place whose turn it is, which the trace tells.
 ///
 /// Refused: no answer of the source, or want of memory; the run and the trace stay.
-fn turn<O: Order, A: Answers>(
-    run: &mut Run,
+fn turn<'m, O: Order, A: Answers>(
+    run: &mut Run<'m>,
     order: &mut O,
     answers: &mut A,
-    trace: &mut Vec<Entry>,
+    trace: &mut Vec<Entry<'m>>,
 ) -> Result<(), Pause>
     requires goes_on { model.outcome_of (run_view run.old) ≡ None }
     ensures run { (m : Scope) → IsRunOf m run.old → IsRunOf m run.new }
@@ -220,7 +220,11 @@ fn next_event<A: Answers>(
 /// Takes the event, which is enabled and which the trace tells.
 ///
 /// Refused: want of memory, with the event's answer; the run and the trace stay.
-fn take(run: &mut Run, event: Event, trace: &mut Vec<Entry>) -> Result<(), Option<Answer>>
+fn take<'m>(
+    run: &mut Run<'m>,
+    event: Event,
+    trace: &mut Vec<Entry<'m>>,
+) -> Result<(), Option<Answer>>
     requires enabled { (m : Scope) → IsRunOf m run.old
         → IsSome (model.step m (run_view run.old) (event_view event)) }
     ensures run { (m : Scope) → IsRunOf m run.old → IsRunOf m run.new }

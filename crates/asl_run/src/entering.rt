@@ -15,31 +15,31 @@ use crate::activities::Visit;
 use crate::changing::Change;
 use crate::data::Data;
 use crate::entries::Datum;
+use crate::failing::raise;
 use crate::flowing::at_output_path;
 use crate::leaving::{finish, leave_with};
 use crate::planning::{Here, Plan};
-use crate::troubling::raise;
 use crate::working::{Work, first_move};
 use asl_tree::OutOfMemory;
 
 /// The state is entered.
-pub(crate) fn enter(here: &Here) -> Result<Plan, OutOfMemory>
+pub(crate) fn enter<'m>(here: &Here<'_, 'm>) -> Result<Plan<'m>, OutOfMemory>
     ensures { IfOk result (λ plan. Plans here.now plan (by_state model.enters here.now)) }
 {
-    let work = first_move(here.alloc, here.state, &here.visit.raw)?;
+    let work = first_move(here.happening.alloc, here.state, &here.visit.raw)?;
     let plan = carry_out(here, work)?;
     plan.after(here.entered())
 }
 
 /// What its first move comes to is done.
-fn carry_out(here: &Here, work: Work) -> Result<Plan, OutOfMemory>
+fn carry_out<'m>(here: &Here<'_, 'm>, work: Work) -> Result<Plan<'m>, OutOfMemory>
     ensures { IfOk result (λ plan. MayCome here.now work.entry
         → Plans here.now plan (by_state model.by_work here.now (work_view work.entry))) }
 {
     match work {
         Work::Finishes(value) => finish(here, value),
         Work::Leaves { next, input } => {
-            let output = at_output_path(here.alloc, &here.state.settings, input);
+            let output = at_output_path(here.happening.alloc, &here.state.settings, input);
             leave_with(here, next, output)
         }
         Work::Fails { error, cause } => here.ends_failing(error, cause),
@@ -50,29 +50,29 @@ fn carry_out(here: &Here, work: Work) -> Result<Plan, OutOfMemory>
 }
 
 /// Its task is asked with a payload.
-fn ask(here: &Here, payload: Data) -> Result<Plan, OutOfMemory>
+fn ask<'m>(here: &Here<'_, 'm>, payload: Data) -> Result<Plan<'m>, OutOfMemory>
     ensures { IfOk result (λ plan. Plans here.now plan
         (by_state model.by_work here.now (flow.Asks (data_view payload.entry)))) }
 {
-    let payload = payload.into_datum(here.alloc)?;
+    let payload = payload.into_datum(here.happening.alloc)?;
     wait_for(here, payload)
 }
 
 /// It waits for the answer to its payload.
-fn wait_for(here: &Here, payload: Datum) -> Result<Plan, OutOfMemory>
+fn wait_for<'m>(here: &Here<'_, 'm>, payload: Datum) -> Result<Plan<'m>, OutOfMemory>
     ensures { IfOk result (λ plan.
         Plans here.now plan (by_state model.by_work here.now (flow.Asks (view payload.value)))) }
 {
     let told = here.asked(&payload);
-    Plan::new(here.alloc, Change::Ask(payload)).after(told)
+    Plan::new(here.happening.alloc, Change::Ask(payload)).after(told)
 }
 
 /// It starts these children.
-fn split(here: &Here, children: Vec<Visit>) -> Plan
+fn split<'m>(here: &Here<'_, 'm>, children: Vec<Visit>) -> Plan<'m>
     ensures { (IsAt here.now → StartIn (names_at here.now)
         (machine.child_scope (kind_view here.now.state.now.kind)) children.items)
         → Plans here.now result
         (by_state model.by_work here.now (flow.Splits (inputs_of children.items))) }
 {
-    Plan::new(here.alloc, Change::SplitInto(children))
+    Plan::new(here.happening.alloc, Change::SplitInto(children))
 }

@@ -1,5 +1,6 @@
 //! What happens in a run: events at places, and the entries of its history.
 
+use crate::faults::Fault;
 use asl_tree::Tree;
 use std::rc::Rc;
 
@@ -14,8 +15,8 @@ pub type Datum = Rc<Tree>;
 /// The answer of a task.
 #[derive(Debug, Drop)]
 pub enum Answer {
-    /// A value.
-    Gives(Tree),
+    /// A value, which the run and its history share.
+    Gives(Datum),
     /// A failure: an error's name and its cause.
     Fails { error: String, cause: String },
 }
@@ -45,46 +46,45 @@ pub enum Outcome {
     Failed { error: String, cause: String },
 }
 
-/// An entry of a run's history. All but `Ended` have the name of a state. Its trees are those of the run itself, shared
-/// and not copied.
+/// An entry of a run's history. All but `Ended` have the name of a state, which the machine lends. Its trees are those of
+/// the run itself, shared and not copied.
 #[derive(Debug, Drop)]
-pub enum Entry {
+pub enum Entry<'m> {
     /// The state is entered with its raw input.
     Enter {
         at: Place,
-        state: String,
+        state: &'m str,
         input: Datum,
     },
     /// Its task is asked with a payload.
     Task {
         at: Place,
-        state: String,
+        state: &'m str,
         payload: Datum,
     },
     /// It is left with its output.
     Leave {
         at: Place,
-        state: String,
+        state: &'m str,
         output: Datum,
     },
-    /// A data-flow fault: its error's name, and the field where it was met.
+    /// It raises a data-flow fault.
     Raise {
         at: Place,
-        state: String,
-        error: String,
-        field: String,
+        state: &'m str,
+        fault: Fault,
     },
     /// Its task has failed.
     TaskFailed {
         at: Place,
-        state: String,
+        state: &'m str,
         error: String,
         cause: String,
     },
     /// The child of that number has failed.
     BranchFailed {
         at: Place,
-        state: String,
+        state: &'m str,
         child: usize,
         error: String,
         cause: String,
@@ -92,15 +92,15 @@ pub enum Entry {
     /// The retrier of that number retries.
     Retried {
         at: Place,
-        state: String,
+        state: &'m str,
         retrier: usize,
     },
     /// The catcher of that number hands on to that state.
     Caught {
         at: Place,
-        state: String,
+        state: &'m str,
         catcher: usize,
-        next: String,
+        next: &'m str,
     },
     /// A scope has ended.
     Ended {

@@ -6,8 +6,8 @@ use asl_tree::OutOfMemory;
 use std::alloc::{AllocError, AllocFailed};
 
 /// The six errors of data flow. `Path.NamesNothing` and `Path.WrongKind` are the profile's own.
-#[derive(Clone, Copy, Drop)]
-pub(crate) enum DataFlowError {
+#[derive(Clone, Copy, Debug, Drop)]
+pub enum DataFlowError {
     ParameterPathFailure,
     ResultPathMatchFailure,
     NoChoiceMatched,
@@ -17,10 +17,10 @@ pub(crate) enum DataFlowError {
 }
 
 /// A data-flow fault: its error, and the name of the field where it was met.
-#[derive(Clone, Copy, Drop)]
-pub(crate) struct Fault {
-    pub(crate) error: DataFlowError,
-    pub(crate) field: &'static str,
+#[derive(Clone, Copy, Debug, Drop)]
+pub struct Fault {
+    pub error: DataFlowError,
+    pub field: &'static str,
 }
 
 /// Why data doesn't flow on.
@@ -36,7 +36,7 @@ impl DataFlowError {
     ghost use Rattle.asl_run.specs.Faults.{error_view};
 
     /// The name of the error.
-    pub(crate) fn name(self) -> &'static str
+    pub fn name(self) -> &'static str
         ensures { result.now ≡ error_name (error_view self) }
     {
         match self {

@@ -13,10 +13,10 @@ ghost use Rattle.asl_tree.specs.View.{view};
 use crate::data::Data;
 use crate::enabling::has_ended;
 use crate::entries::Outcome;
+use crate::failing::in_trouble;
 use crate::leaving::finish;
 use crate::nodes::Node;
 use crate::planning::{Here, Plan};
-use crate::troubling::in_trouble;
 use asl_states::Kind;
 use asl_tree::{OutOfMemory, Tree, copy};
 use std::alloc::Global;
@@ -36,7 +36,10 @@ enum Far<'c> {
 }
 
 /// The state's children are joined; none where they aren't far enough.
-pub(crate) fn join(here: &Here, children: &[Node]) -> Result<Option<Plan>, OutOfMemory>
+pub(crate) fn join<'m>(
+    here: &Here<'_, 'm>,
+    children: &[Node],
+) -> Result<Option<Plan<'m>>, OutOfMemory>
     ensures { IfOk result (λ plan. (below : List model.Activity)
         → AreHeads (names_at here.now) children.now below
         → PlansAs here.now plan
@@ -44,7 +47,7 @@ pub(crate) fn join(here: &Here, children: &[Node]) -> Result<Option<Plan>, OutOf
 {
     match how_far(children) {
         Far::AllDone => {
-            let outputs = outputs_of(here.alloc, children)?;
+            let outputs = outputs_of(here.happening.alloc, children)?;
             let finished = finish(here, Data::Made(Tree::List(outputs)))?;
             Ok(Some(finished))
         }
@@ -61,7 +64,12 @@ pub(crate) fn join(here: &Here, children: &[Node]) -> Result<Option<Plan>, OutOf
 }
 
 /// Its child of that number has failed: the state is in trouble.
-fn break_off(here: &Here, child: usize, error: &str, cause: &str) -> Result<Plan, OutOfMemory>
+fn break_off<'m>(
+    here: &Here<'_, 'm>,
+    child: usize,
+    error: &str,
+    cause: &str,
+) -> Result<Plan<'m>, OutOfMemory>
     ensures { IfOk result (λ plan. Plans here.now plan
         (model.entry_then (model.BranchFailed here.now.name.now child error.now cause.now)
         (by_settings model.troubled here.now

@@ -14,15 +14,19 @@ use crate::activities::Visit;
 use crate::changing::Change;
 use crate::data::Data;
 use crate::entries::{Datum, Outcome};
+use crate::failing::raise;
 use crate::faults::Stop;
 use crate::flowing::output_of;
 use crate::planning::{Here, Plan};
-use crate::troubling::raise;
 use asl_states::Target;
 use asl_tree::OutOfMemory;
 
 /// The state leaves with an output, for that next state or for the end of its scope.
-fn leave(here: &Here, next: Option<&Target>, output: Datum) -> Result<Plan, OutOfMemory>
+fn leave<'m>(
+    here: &Here<'_, 'm>,
+    next: Option<&Target>,
+    output: Datum,
+) -> Result<Plan<'m>, OutOfMemory>
     ensures { IfOk result (λ plan. IfSome next.entry (λ target. MayFollow here.now target.now)
         → Plans here.now plan (model.leaves_for here.now.name.now
         (option_map (λ target. target_name target.now) next.entry) (view output.value))) }
@@ -34,17 +38,17 @@ fn leave(here: &Here, next: Option<&Target>, output: Datum) -> Result<Plan, OutO
 }
 
 /// So for that next state.
-fn leave_for(here: &Here, next: &Target, output: Datum) -> Result<Plan, OutOfMemory>
+fn leave_for<'m>(here: &Here<'_, 'm>, next: &Target, output: Datum) -> Result<Plan<'m>, OutOfMemory>
     ensures { IfOk result (λ plan. MayFollow here.now next.now → Plans here.now plan
         (model.leaves_for here.now.name.now (Some (target_name next.now)) (view output.value))) }
 {
     let told = here.left(&output);
-    let entered = Visit::new(here.alloc, next.number, output);
-    Plan::new(here.alloc, Change::Enter(entered)).after(told)
+    let entered = Visit::new(here.happening.alloc, next.number, output);
+    Plan::new(here.happening.alloc, Change::Enter(entered)).after(told)
 }
 
 /// So for the end of its scope.
-fn leave_scope(here: &Here, output: Datum) -> Result<Plan, OutOfMemory>
+fn leave_scope<'m>(here: &Here<'_, 'm>, output: Datum) -> Result<Plan<'m>, OutOfMemory>
     ensures { IfOk result (λ plan.
         Plans here.now plan (model.leaves_for here.now.name.now None (view output.value))) }
 {
@@ -57,11 +61,11 @@ fn leave_scope(here: &Here, output: Datum) -> Result<Plan, OutOfMemory>
 }
 
 /// The same where the output may have met a fault.
-pub(crate) fn leave_with(
-    here: &Here,
+pub(crate) fn leave_with<'m>(
+    here: &Here<'_, 'm>,
     next: Option<&Target>,
     output: Result<Datum, Stop>,
-) -> Result<Plan, OutOfMemory>
+) -> Result<Plan<'m>, OutOfMemory>
     ensures { IfOk result (λ plan. (defined : Result trees.Tree faults.Fault)
         → Flows datum_view output defined
         → IfSome next.entry (λ target. MayFollow here.now target.now)
@@ -78,11 +82,11 @@ pub(crate) fn leave_with(
 }
 
 /// The state has a result.
-pub(crate) fn finish(here: &Here, value: Data) -> Result<Plan, OutOfMemory>
+pub(crate) fn finish<'m>(here: &Here<'_, 'm>, value: Data) -> Result<Plan<'m>, OutOfMemory>
     ensures { IfOk result (λ plan.
         Plans here.now plan (by_settings model.finishes here.now (data_view value.entry))) }
 {
     let settings = &here.state.settings;
-    let output = output_of(here.alloc, settings, &here.visit.raw, value);
+    let output = output_of(here.happening.alloc, settings, &here.visit.raw, value);
     leave_with(here, settings.next.as_ref(), output)
 }

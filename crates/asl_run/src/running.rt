@@ -69,7 +69,7 @@ impl<'m> Run<'m> {
     ///
     /// `NoSuchPlace` where nothing stands at the event's place; `NotEnabled` where what stands there wants no such
     /// event; these two take no memory. `OutOfMemory` where an allocation was refused.
-    pub fn step(&mut self, event: Event) -> Result<Vec<Entry>, (StepRefusal, Event)>
+    pub fn step(&mut self, event: Event) -> Result<Vec<Entry<'m>>, (StepRefusal, Event)>
         ensures kept { (m : Scope) → IsRunOf m self.old → IsRunOf m self.new }
         ensures taken { (m : Scope) → IsRunOf m self.old
             → IfOk result (λ entries. Takes m (run_view self.old) (event_view event)
@@ -95,7 +95,7 @@ impl<'m> Run<'m> {
     }
 
     /// Takes the event. A refusal leaves the run as it was.
-    fn take(&mut self, event: &Event) -> Result<Vec<Entry>, StepRefusal>
+    fn take(&mut self, event: &Event) -> Result<Vec<Entry<'m>>, StepRefusal>
         ensures kept { (m : Scope) → IsRunOf m self.old → IsRunOf m self.new }
         ensures steps { Steps self.old.machine.now (event_view event.now).place
             (event_view event.now).place (run_view self.old) (run_view self.new)
@@ -112,7 +112,7 @@ impl<'m> Run<'m> {
         &mut self,
         place: &[usize],
         answer: Option<&Answer>,
-    ) -> Result<Vec<Entry>, StepRefusal>
+    ) -> Result<Vec<Entry<'m>>, StepRefusal>
         ensures kept { (m : Scope) → IsRunOf m self.old → IsRunOf m self.new }
         ensures steps { Steps self.old.machine.now place.now place.now
             (run_view self.old) (run_view self.new)

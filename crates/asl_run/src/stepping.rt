@@ -7,9 +7,9 @@ ghost use Rattle.asl_run.specs.Counting.{open_count};
 ghost use Rattle.asl_run.specs.Enabling.{wanted_by};
 ghost use Rattle.asl_run.specs.Nodes.{AreHeads, shown_at, shown_over};
 ghost use Rattle.asl_run.specs.Standing.{children_of};
-ghost use Rattle.asl_run.specs.Stepping.{IsPlanned, StepsAt, action_of};
+ghost use Rattle.asl_run.specs.Acting.{action_of};
+ghost use Rattle.asl_run.specs.Stepping.{IsPlanned, StepsAt};
 
-use crate::acting::plan;
 use crate::enabling::wanted_by;
 use crate::entries::{Answer, Entry, Want};
 use crate::nodes::{Node, NodeNumber, Nodes};
@@ -32,17 +32,17 @@ pub enum StepRefusal {
 
 /// Where a step is taken, and what happens there: a task's answer, or a move.
 #[derive(Clone, Copy)]
-pub(crate) struct Happening<'m> {
+pub(crate) struct Happening<'h, 'm> {
     pub(crate) alloc: Global,
     pub(crate) machine: &'m Machine,
     /// The place, from the machine's own on.
-    pub(crate) at: &'m [usize],
-    pub(crate) answer: Option<&'m Answer>,
+    pub(crate) at: &'h [usize],
+    pub(crate) answer: Option<&'h Answer>,
 }
 
-impl<'m> Happening<'m> {
+impl<'m> Happening<'_, 'm> {
     /// The step, and its entries.
-    pub(crate) fn take_step(self, standing: &mut Standing) -> Result<Vec<Entry>, StepRefusal>
+    pub(crate) fn take_step(self, standing: &mut Standing) -> Result<Vec<Entry<'m>>, StepRefusal>
         ensures { StepsAt self.entry standing.old standing.new result }
     {
         let nodes = standing.nodes();
@@ -60,7 +60,7 @@ impl<'m> Happening<'m> {
     }
 
     /// What is to be done at the node of that number. That it wants such an event is known before anything is made.
-    fn plan_at(self, nodes: &Nodes, number: NodeNumber) -> Result<Plan, StepRefusal>
+    fn plan_at(self, nodes: &Nodes, number: NodeNumber) -> Result<Plan<'m>, StepRefusal>
         requires { number.0 < length nodes.now }
         ensures planned { IsPlanned self.entry nodes.now number.0 result }
         ensures wanted { IfOk result
@@ -71,14 +71,7 @@ impl<'m> Happening<'m> {
         if !self.is_wanted_by(node, children) {
             return Err(StepRefusal::NotEnabled);
         }
-        match plan(
-            self.alloc,
-            self.machine,
-            self.at,
-            node,
-            children,
-            self.answer,
-        ) {
+        match self.plan(node, children) {
             Ok(Some(plan)) => Ok(plan),
             Ok(None) => Err(StepRefusal::NotEnabled),
             Err(OutOfMemory) => Err(StepRefusal::OutOfMemory),

@@ -61,13 +61,13 @@ fn compare(rt: &impl Abort, alloc: Global, trace: &[Entry], wanted: &[&'static s
 }
 
 /// Why driving stops, and the trace of what has happened, where it isn't broken off.
-fn driven<O: Order, A: Answers>(
+fn driven<'m, O: Order, A: Answers>(
     rt: &impl Abort,
-    run: &mut Run,
+    run: &mut Run<'m>,
     order: &mut O,
     answers: &mut A,
     max_steps: u64,
-) -> (Stop, Vec<Entry>) {
+) -> (Stop, Vec<Entry<'m>>) {
     drive(run, order, answers, max_steps)
         .ok()
         .expect(rt, "the run was broken off")

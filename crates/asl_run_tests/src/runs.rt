@@ -8,6 +8,7 @@ use asl_run::{Answer, Event, Outcome, Run, start};
 use asl_tree::{Tree, read_value, to_text};
 use std::alloc::Global;
 use std::process::Abort;
+use std::rc::Rc;
 
 /// What happens at a place: a move, or a task's answer, which gives a value or fails with an error and a cause.
 #[derive(Clone, Copy)]
@@ -76,7 +77,10 @@ pub(crate) fn started<'m>(
 pub(crate) fn answer(rt: &impl Abort, alloc: Global, happening: Happening) -> Option<Answer> {
     match happening {
         Moves => None,
-        Gives(value) => Some(Answer::Gives(tree(rt, alloc, value))),
+        Gives(value) => {
+            let value = Rc::new(alloc, tree(rt, alloc, value));
+            Some(Answer::Gives(value.expect(rt, "memory")))
+        }
         Fails(error, cause) => Some(Answer::Fails {
             error: owned(rt, alloc, error),
             cause: owned(rt, alloc, cause),

@@ -8,6 +8,7 @@ use crate::scripts::{Script, Times};
 use asl_run::Answer;
 use asl_tree::Tree;
 use std::alloc::Global;
+use std::rc::Rc;
 
 /// The answers that an object with the names of states spells.
 pub(crate) fn read_case_answers(
@@ -129,7 +130,7 @@ fn read_answer_in(
     fields: &mut Fields<'_>,
 ) -> Result<Answer, SuiteRefusal> {
     match (fields.take("Return"), fields.take("Throw")) {
-        (Some(value), None) => Ok(Answer::Gives(value)),
+        (Some(value), None) => Ok(Answer::Gives(Rc::new(alloc, value)?)),
         (None, Some(failure)) => read_failure(alloc, &Place::Field(place, "Throw"), failure),
         (Some(_), Some(_)) | (None, None) => Err(fields.refusal(SuiteFault::OneAnswer)),
     }

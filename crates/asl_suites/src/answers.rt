@@ -36,7 +36,7 @@ impl StateAnswers {
     }
 
     /// The next answer in that item of the innermost Map, or outside of any.
-    fn next(&mut self, alloc: Global, item: Option<usize>) -> Result<Option<Answer>, OutOfMemory>
+    fn next(&mut self, item: Option<usize>) -> Result<Option<Answer>, OutOfMemory>
         ensures given { IfOk result (λ answer. option_map answer_view answer
             ≡ model.next_of (model.script_for (state_view self.old) item)) }
         ensures left { OnOk result
@@ -44,9 +44,9 @@ impl StateAnswers {
         ensures kept { OnErr result (state_view self.new ≡ state_view self.old) }
     {
         match self {
-            StateAnswers::ByAttempt(script) => script.next(alloc),
+            StateAnswers::ByAttempt(script) => script.next(),
             StateAnswers::ByItem(scripts) => match item {
-                Some(item) => next_of_item(alloc, scripts, item),
+                Some(item) => next_of_item(scripts, item),
                 None => Ok(None),
             },
         }
@@ -54,11 +54,7 @@ impl StateAnswers {
 }
 
 /// The next answer of the item's script; none behind the last script.
-fn next_of_item(
-    alloc: Global,
-    scripts: &mut Vec<Script>,
-    item: usize,
-) -> Result<Option<Answer>, OutOfMemory>
+fn next_of_item(scripts: &mut Vec<Script>, item: usize) -> Result<Option<Answer>, OutOfMemory>
     ensures given { IfOk result (λ answer. option_map answer_view answer
         ≡ model.next_of (slice_index_or (map script_view scripts.old.items) item model.silent)) }
     ensures left { OnOk result (map script_view scripts.new.items
@@ -68,7 +64,7 @@ fn next_of_item(
         (map script_view scripts.new.items ≡ map script_view scripts.old.items) }
 {
     match scripts.get_mut(item) {
-        Some(script) => script.next(alloc),
+        Some(script) => script.next(),
         None => Ok(None),
     }
 }
@@ -76,7 +72,6 @@ fn next_of_item(
 /// The answers of a case, each under the name of the state whose task gets it.
 #[derive(Debug, Drop)]
 pub struct CaseAnswers {
-    pub(crate) alloc: Global,
     pub(crate) states: BTreeMap<String, StateAnswers>,
 }
 
@@ -86,7 +81,6 @@ impl CaseAnswers {
         ensures { (n : List ℕ) → answers_under result n ≡ None }
     {
         CaseAnswers {
-            alloc,
             states: BTreeMap::new(alloc),
         }
     }
@@ -107,7 +101,7 @@ impl CaseAnswers {
             → answers_under self.new n ≡ answers_under self.old n }
     {
         match self.states.get_mut(state) {
-            Some(own) => own.next(self.alloc, item),
+            Some(own) => own.next(item),
             None => Ok(None),
         }
     }

@@ -5,7 +5,7 @@ ghost use Rattle.asl_suites.specs.Scripts as model;
 ghost use Rattle.asl_suites.specs.View.{listed_view, script_view, times_given};
 
 use asl_run::Answer;
-use asl_tree::{OutOfMemory, copy};
+use asl_tree::OutOfMemory;
 use std::alloc::Global;
 use std::collections::VecDeque;
 
@@ -27,14 +27,14 @@ pub(crate) struct Repeated {
 
 impl Repeated {
     /// A copy of the answer, for one of its further times.
-    fn again(&mut self, alloc: Global) -> Result<Answer, OutOfMemory>
+    fn again(&mut self) -> Result<Answer, OutOfMemory>
         requires { 0 < self.old.further }
         ensures given { IfOk result (λ answer. answer_view answer ≡ answer_view self.old.answer) }
         ensures answer { self.new.answer ≡ self.old.answer }
         ensures further { OnOk result (self.new.further ≡ self.old.further - 1) }
         ensures kept { OnErr result (self.new ≡ self.old) }
     {
-        let answer = copy_answer(alloc, &self.answer)?;
+        let answer = copy_answer(&self.answer)?;
         self.further -= 1;
         Ok(answer)
     }
@@ -75,24 +75,21 @@ impl Script {
 
     /// The next answer, which is taken; one for ever stays. Refuses only where an allocation was refused; nothing is
     /// taken then.
-    pub(crate) fn next(&mut self, alloc: Global) -> Result<Option<Answer>, OutOfMemory>
+    pub(crate) fn next(&mut self) -> Result<Option<Answer>, OutOfMemory>
         ensures given { IfOk result (λ answer.
             option_map answer_view answer ≡ model.next_of (script_view self.old)) }
         ensures rest { OnOk result (script_view self.new ≡ model.rest_of (script_view self.old)) }
         ensures kept { OnErr result (script_view self.new ≡ script_view self.old) }
     {
-        match next_repeated(alloc, &mut self.repeated)? {
+        match next_repeated(&mut self.repeated)? {
             Some(answer) => Ok(Some(answer)),
-            None => copy_where_there(alloc, &self.for_ever),
+            None => copy_where_there(&self.for_ever),
         }
     }
 }
 
 /// The first of the answers, which is taken.
-fn next_repeated(
-    alloc: Global,
-    repeated: &mut VecDeque<Repeated>,
-) -> Result<Option<Answer>, OutOfMemory>
+fn next_repeated(repeated: &mut VecDeque<Repeated>) -> Result<Option<Answer>, OutOfMemory>
     ensures given { IfOk result (λ answer.
         option_map answer_view answer ≡ slice_get (listed_view repeated.old.items) 0) }
     ensures rest { OnOk result
@@ -100,29 +97,29 @@ fn next_repeated(
     ensures kept { OnErr result (listed_view repeated.new.items ≡ listed_view repeated.old.items) }
 {
     match repeated.front_mut() {
-        Some(front) if 0 < front.further => Ok(Some(front.again(alloc)?)),
+        Some(front) if 0 < front.further => Ok(Some(front.again()?)),
         Some(_) => Ok(repeated.pop_front().map(|front| front.answer)),
         None => Ok(None),
     }
 }
 
 /// A copy of the answer, where there is one.
-fn copy_where_there(alloc: Global, answer: &Option<Answer>) -> Result<Option<Answer>, OutOfMemory>
+fn copy_where_there(answer: &Option<Answer>) -> Result<Option<Answer>, OutOfMemory>
     ensures { IfOk result
         (λ copied. option_map answer_view copied ≡ option_map answer_view answer.now) }
 {
     match answer {
-        Some(answer) => Ok(Some(copy_answer(alloc, answer)?)),
+        Some(answer) => Ok(Some(copy_answer(answer)?)),
         None => Ok(None),
     }
 }
 
-/// An equal answer.
-fn copy_answer(alloc: Global, answer: &Answer) -> Result<Answer, OutOfMemory>
+/// An equal answer, which shares its value.
+fn copy_answer(answer: &Answer) -> Result<Answer, OutOfMemory>
     ensures { IfOk result (λ copied. answer_view copied ≡ answer_view answer.now) }
 {
     match answer {
-        Answer::Gives(tree) => Ok(Answer::Gives(copy(alloc, tree)?)),
+        Answer::Gives(value) => Ok(Answer::Gives(value.clone()?)),
         Answer::Fails { error, cause } => Ok(Answer::Fails {
             error: error.clone()?,
             cause: cause.clone()?,

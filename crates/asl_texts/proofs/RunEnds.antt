@@ -1,18 +1,18 @@
 -- What a driven run comes to, for the declared shapes.
-use Rattle.std.proofs.Common.{◌≡◌, ◌≤◌, ℕ, List, [], ◌∷◌, map, Bool, true, false, Option, Some, None, is_some, option_and_then, option_copied, option_map, slice_get, Bor, Result, Ok, Err, IfOk, refl, sym, ap, ◌∙◌, subst}
+use Rattle.std.proofs.Common.{◌≡◌, ◌≤◌, ℕ, List, [], ◌∷◌, Bool, true, false, Option, Some, None, is_some, option_and_then, option_copied, option_map, slice_get, Bor, Result, Ok, Err, IfOk, refl, sym, ap, ◌∙◌, subst}
 use Rattle.std.specs.Prelude.{All}
 use Rattle.std.specs.Option.{unwrap_or}
 use Rattle.std.proofs.lemmas.List.Elements.{All-head, All-tail}
 use Rattle.asl_model.specs.Certificate.{Declared, ActionObeys, TakenObeys, AnswersObey, waiting_at, waiting_name}
 use Rattle.asl_model.specs.Machine.{Scope}
 use Rattle.asl_model.specs.Numbering.{table_of}
-use Rattle.asl_model.specs.Run.{Activity, Action, Move, Gives, FailsTask, Event, Entry, Turn, activity_at, enabled, run_of, trace}
+use Rattle.asl_model.specs.Run.{Activity, Action, Move, Gives, FailsTask, Event, Turn, activity_at, enabled, run_of}
 use Rattle.asl_model.specs.TracePrinted.{trace_text}
 use Rattle.asl_model.specs.Tree.{Tree}
 use Rattle.asl_model.specs.Printed.{RunEnd, InputShape}
 use Rattle.asl_records.specs.View.{declared_view}
 use Rattle.asl_records.specs.declared.records.Declared as code
-use Rattle.asl_run.specs.Driving.{MayHappen, answer_given, IsTaken, IsUnanswered, Policy, StopsSo, TurnIsUnanswered, placed_entry, policy_of}
+use Rattle.asl_run.specs.Driving.{MayHappen, answer_given, IsTaken, IsUnanswered, Policy, StopsSo, TurnIsUnanswered, policy_of}
 use Rattle.asl_run.specs.declared.driving.Stop.{Stop}
 use Rattle.asl_run.specs.declared.driving.Stop.TheVariants as stops
 use Rattle.asl_texts.specs.Tracing.{Traces, begun}
@@ -99,22 +99,6 @@ ends_so given order most count a left spent stops.StepsSpent e h = h
 
 -- ---- the whole run
 
-abbrev Told : Type 0
-Told = List ℕ × Entry
-
--- entries with their places are told from each other
-placed_same : (xs ys : List Told) → map placed_entry xs ≡ map placed_entry ys → xs ≡ ys
-placed_same [] [] e = refl
-placed_same [] (y ∷ ys) e = absurd (cc)
-placed_same (x ∷ xs) [] e = absurd (cc)
-placed_same ((p, x) ∷ xs) ((q, y) ∷ ys) e =
-    let first : placed_entry (p, x) ≡ placed_entry (q, y) = cc in
-    let place : p ≡ q = ap (λ told. told.0) first in
-    let some : Some x ≡ Some y = ap (λ told. told.1) first in
-    let entry : x ≡ y = cc in
-    let others : map placed_entry xs ≡ map placed_entry ys = cc in
-    rw (place, entry, placed_same xs ys others) refl
-
 -- the run whose history is written
 pub written_run : (given : RunGiven) (order : Pick) (most : ℕ) (stop : Stop) (left : List Action) (spent : Bool) (end : RunEnd) (text : List ℕ)
     → fits_input given.shapes given.input ≡ true → spent ≡ is_spent left
@@ -137,7 +121,7 @@ written_run given order most stop left spent end text fits none_more written end
       picked = all_picked order shapes left machine turns s.drives.taken;
       answered = s.drives.answered;
       obeys = obeys shapes order left machine given.input s.drives.events fits s.drives.taken;
-      told = written.traced ∙ ap trace_text (placed_same written.told (trace turns) s.drives.traced);
+      told = written.traced ∙ ap trace_text s.drives.traced;
       why = subst (λ n. E n (left_standing given s.drives.events) end) (sym s.drives.counted)
           (subst (λ a. E s.count a end) (sym s.drives.stands) (subst (E s.count after) (sym ends) there));
     }

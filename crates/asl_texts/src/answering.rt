@@ -7,11 +7,13 @@ ghost use Rattle.asl_model.specs.Test.{as_text};
 ghost use Rattle.asl_tree.specs.View.{view, elements_view, entries_view};
 ghost use Rattle.asl_run.specs.Entries.{answer_view};
 ghost use Rattle.asl_texts.specs.Answers.{IsAnswersRefusal, IsFirstOf};
+ghost use Rattle.asl_texts.specs.declared.answering.AnswersRefusal.TheVariants as refusals;
 
 use asl_run::Answer;
 use asl_tree::Tree;
 use std::alloc::{AllocError, AllocFailed, Global};
 use std::collections::{BTreeMap, VecDeque};
+use std::rc::Rc;
 
 /// Why a tree is read as no list of answers.
 #[derive(Drop)]
@@ -70,7 +72,7 @@ fn answers_in(alloc: Global, elements: Vec<Tree>) -> Result<VecDeque<Answer>, An
 {
     let mut answers = Vec::with_capacity(alloc, elements.len())?;
     for element in elements {
-        match answer_from(alloc, element) {
+        match answer_from(alloc, element)? {
             Some(answer) => answers.push(answer)?,
             None => return Err(AnswersRefusal::BadAnswer(answers.len())),
         }
@@ -78,22 +80,26 @@ fn answers_in(alloc: Global, elements: Vec<Tree>) -> Result<VecDeque<Answer>, An
     Ok(VecDeque::from(answers))
 }
 
-/// The answer that a tree stands for.
-fn answer_from(alloc: Global, tree: Tree) -> Option<Answer>
-    ensures { option_map answer_view result ≡ answer_of (view tree) }
+/// The answer that a tree stands for; none where it stands for none. Refuses only for want of memory.
+fn answer_from(alloc: Global, tree: Tree) -> Result<Option<Answer>, AnswersRefusal>
+    ensures exactly { IfOk result
+        (λ answer. option_map answer_view answer ≡ answer_of (view tree)) }
+    ensures refused { IfErr result (λ refusal. refusal ≡ refusals.OutOfMemory) }
 {
     let Tree::Object(fields) = tree else {
-        return None;
+        return Ok(None);
     };
     let mut fields = fields.into_iter();
-    let (name, value) = fields.next()?;
+    let Some((name, value)) = fields.next() else {
+        return Ok(None);
+    };
     if fields.next().is_some() {
-        return None;
+        return Ok(None);
     }
     match name.as_str() {
-        "Gives" => Some(Answer::Gives(value)),
-        "Fails" => failure_from(alloc, value),
-        _ => None,
+        "Gives" => Ok(Some(Answer::Gives(Rc::new(alloc, value)?))),
+        "Fails" => Ok(failure_from(alloc, value)),
+        _ => Ok(None),
     }
 }
 

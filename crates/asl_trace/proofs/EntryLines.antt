@@ -1,12 +1,13 @@
 -- The line of each entry, put together of its parts.
 use Rattle.std.proofs.Common.{◌≡◌, ℕ, pos, List, [], ◌∷◌, ◌++◌, refl, sym, ap, ◌∙◌, append_assoc, codes}
 use Rattle.json.specs.Print.{escape_byte}
+use Rattle.asl_model.specs.Faults.{Fault, error_name}
 use Rattle.asl_model.specs.Json.{compact_text}
 use Rattle.asl_model.specs.Printed.{line_break}
 use Rattle.asl_model.specs.Run as model
 use Rattle.asl_model.specs.Tree.{Tree, Integer, Text}
 use Rattle.asl_model.specs.TracePrinted.{entry_line}
-use Rattle.asl_trace.specs.Shown.{place_tree, raise_tree}
+use Rattle.asl_trace.specs.Shown.{place_tree}
 
 -- texts, each behind one that stands in front of it, up to an end
 abbrev joined : List (List ℕ × List ℕ) → List ℕ → List ℕ
@@ -34,10 +35,10 @@ unfolding escape_byte
 left_line at state datum =
     sym (end_behind ((codes "{\"at\":", compact_text (place_tree at)) ∷ (codes ",\"entry\":\"Leave\",\"output\":", compact_text datum) ∷ (codes ",\"state\":", compact_text (Text state)) ∷ []) (125 ∷ []) line_break)
 
-pub raise_line : (at error field state : List ℕ) → joined ((codes "{\"at\":", compact_text (place_tree at)) ∷ (codes ",\"entry\":\"Raise\",\"error\":", compact_text (Text error)) ∷ (codes ",\"field\":", compact_text (Text field)) ∷ (codes ",\"state\":", compact_text (Text state)) ∷ []) (codes "}\n") ≡ compact_text (raise_tree at error field state) ++ line_break
+pub raise_line : (at state : List ℕ) (fault : Fault) (error : List ℕ) → error ≡ error_name fault.error → joined ((codes "{\"at\":", compact_text (place_tree at)) ∷ (codes ",\"entry\":\"Raise\",\"error\":", compact_text (Text error)) ∷ (codes ",\"field\":", compact_text (Text fault.field)) ∷ (codes ",\"state\":", compact_text (Text state)) ∷ []) (codes "}\n") ≡ entry_line (at, model.Raised state fault)
 unfolding escape_byte
-raise_line at error field state =
-    sym (end_behind ((codes "{\"at\":", compact_text (place_tree at)) ∷ (codes ",\"entry\":\"Raise\",\"error\":", compact_text (Text error)) ∷ (codes ",\"field\":", compact_text (Text field)) ∷ (codes ",\"state\":", compact_text (Text state)) ∷ []) (125 ∷ []) line_break)
+raise_line at state fault error named =
+    rw named (sym (end_behind ((codes "{\"at\":", compact_text (place_tree at)) ∷ (codes ",\"entry\":\"Raise\",\"error\":", compact_text (Text (error_name fault.error))) ∷ (codes ",\"field\":", compact_text (Text fault.field)) ∷ (codes ",\"state\":", compact_text (Text state)) ∷ []) (125 ∷ []) line_break))
 
 pub failure_line : (at cause error state : List ℕ) → joined ((codes "{\"at\":", compact_text (place_tree at)) ∷ (codes ",\"cause\":", compact_text (Text cause)) ∷ (codes ",\"entry\":\"TaskFailed\",\"error\":", compact_text (Text error)) ∷ (codes ",\"state\":", compact_text (Text state)) ∷ []) (codes "}\n") ≡ entry_line (at, model.TaskFailed state error cause)
 unfolding escape_byte

@@ -1,10 +1,9 @@
 -- What stands in a line of a trace. No public clause cites this module.
-use Rattle.std.specs.Prelude.{◌≡◌, ℕ, pos, List, [], ◌∷◌, ◌++◌, Option, IfSome, codes}
+use Rattle.std.specs.Prelude.{ℕ, pos, List, [], ◌∷◌, ◌++◌, codes}
 use Rattle.std.specs.Borrow.{Bor}
 use Rattle.asl_model.specs.Json.{compact_text}
-use Rattle.asl_model.specs.Run.{Entry}
-use Rattle.asl_model.specs.TracePrinted.{numbers, entry_line}
-use Rattle.asl_model.specs.Tree.{Tree, Integer, Text, Array, Object, NoFields, AndField}
+use Rattle.asl_model.specs.TracePrinted.{numbers}
+use Rattle.asl_model.specs.Tree.{Tree, Integer, Text, Array}
 use Rattle.asl_tree.specs.View.{view}
 use Rattle.asl_trace.specs.declared.shown.Shown.{Shown}
 use Rattle.asl_trace.specs.declared.shown.Shown.TheVariants as shown
@@ -31,14 +30,3 @@ abbrev pub data_line : List ℕ → List ℕ → Tree → List ℕ → List ℕ
 data_line at front datum state =
     codes "{\"at\":" ++ (compact_text (place_tree at) ++ (front ++ (compact_text datum ++ (codes ",\"state\":"
     ++ (compact_text (Text state) ++ codes "}\n")))))
-
--- what is written of an error by its name
-abbrev pub raise_tree : List ℕ → List ℕ → List ℕ → List ℕ → Tree
-raise_tree at error field state =
-    Object (AndField (codes "at") (place_tree at) (AndField (codes "entry") (Text (codes "Raise"))
-    (AndField (codes "error") (Text error) (AndField (codes "field") (Text field)
-    (AndField (codes "state") (Text state) NoFields)))))
-
--- the bytes have grown by the line of an entry at its place, if there is one
-pub record AddsEntry (placed : List ℕ × Option Entry) (before longer : List ℕ) : Type 0 where
-  pub added : IfSome placed.1 (λ entry. longer ≡ before ++ entry_line (placed.0, entry))

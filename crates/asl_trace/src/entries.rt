@@ -1,28 +1,25 @@
 //! The line of each entry.
 
-ghost use Rattle.std.specs.Prelude.{◌≡◌, ◌++◌, ℕ, List, IfOk, Some, map};
-ghost use Rattle.asl_model.specs.Json.{compact_text};
-ghost use Rattle.asl_model.specs.Printed.{line_break};
+ghost use Rattle.std.specs.Prelude.{◌≡◌, ◌++◌, IfOk, map};
 ghost use Rattle.asl_model.specs.Run as model;
 ghost use Rattle.asl_model.specs.TracePrinted.{entry_line, trace_text};
-ghost use Rattle.asl_run.specs.Driving.{placed_entry};
-ghost use Rattle.asl_run.specs.Entries.{entry_view, error_named, outcome_view, raised_view};
+ghost use Rattle.asl_run.specs.Entries.{entry_view, outcome_view};
+ghost use Rattle.asl_run.specs.Faults.{fault_view};
 ghost use Rattle.asl_trace.specs.Lines.{lines_text};
-ghost use Rattle.asl_trace.specs.Shown.{AddsEntry, data_line, raise_tree};
+ghost use Rattle.asl_trace.specs.Shown.{data_line};
 ghost use Rattle.asl_tree.specs.View.{view};
 
 use crate::lines::Lines;
 use crate::shown::Shown;
-use asl_run::{Datum, Entry, Outcome};
+use asl_run::{Datum, Entry, Fault, Outcome};
 use asl_tree::OutOfMemory;
 
-impl Lines {
+impl<'m> Lines<'m> {
     /// Adds the lines of the entries, in order. A refusal, for want of memory, may leave some of them; no clause says what then
     /// stands here.
-    pub fn add(&mut self, entries: &[Entry]) -> Result<(), OutOfMemory>
-        ensures { IfOk result (λ _. (told : List (List ℕ × model.Entry))
-            → map entry_view entries.now ≡ map placed_entry told
-            → lines_text self.new ≡ lines_text self.old ++ trace_text told) }
+    pub fn add(&mut self, entries: &[Entry<'m>]) -> Result<(), OutOfMemory>
+        ensures { IfOk result (λ _. lines_text self.new
+            ≡ lines_text self.old ++ trace_text (map entry_view entries.now)) }
     {
         for entry in entries {
             self.add_entry(entry)?;
@@ -31,20 +28,15 @@ impl Lines {
     }
 
     /// Adds the line of the entry.
-    fn add_entry(&mut self, entry: &Entry) -> Result<(), OutOfMemory>
-        ensures { IfOk result
-            (λ _. AddsEntry (entry_view entry.now) self.old.bytes.items self.new.bytes.items) }
+    fn add_entry(&mut self, entry: &Entry<'m>) -> Result<(), OutOfMemory>
+        ensures { IfOk result (λ _. self.new.bytes.items
+            ≡ self.old.bytes.items ++ entry_line (entry_view entry.now)) }
     {
         match entry {
             Entry::Enter { at, state, input } => self.add_enter(at, input, state),
             Entry::Task { at, state, payload } => self.add_task(at, payload, state),
             Entry::Leave { at, state, output } => self.add_leave(at, output, state),
-            Entry::Raise {
-                at,
-                state,
-                error,
-                field,
-            } => self.add_fault(at, error, field, state),
+            Entry::Raise { at, state, fault } => self.add_raise(at, *fault, state),
             Entry::TaskFailed {
                 at,
                 state,
@@ -70,7 +62,7 @@ impl Lines {
     }
 
     /// Adds the line of what enters a state.
-    fn add_enter(&mut self, at: &[usize], input: &Datum, state: &str) -> Result<(), OutOfMemory>
+    fn add_enter(&mut self, at: &[usize], input: &Datum, state: &'m str) -> Result<(), OutOfMemory>
         ensures { IfOk result (λ _. self.new.bytes.items ≡ self.old.bytes.items
             ++ entry_line (at.now, model.Entered state.now (view input.now.value))) }
     {
@@ -78,7 +70,7 @@ impl Lines {
     }
 
     /// Adds the line of what a task is asked with.
-    fn add_task(&mut self, at: &[usize], payload: &Datum, state: &str) -> Result<(), OutOfMemory>
+    fn add_task(&mut self, at: &[usize], payload: &Datum, state: &'m str) -> Result<(), OutOfMemory>
         ensures { IfOk result (λ _. self.new.bytes.items ≡ self.old.bytes.items
             ++ entry_line (at.now, model.Asked state.now (view payload.now.value))) }
     {
@@ -86,7 +78,7 @@ impl Lines {
     }
 
     /// Adds the line of what leaves a state.
-    fn add_leave(&mut self, at: &[usize], output: &Datum, state: &str) -> Result<(), OutOfMemory>
+    fn add_leave(&mut self, at: &[usize], output: &Datum, state: &'m str) -> Result<(), OutOfMemory>
         ensures { IfOk result (λ _. self.new.bytes.items ≡ self.old.bytes.items
             ++ entry_line (at.now, model.Left state.now (view output.now.value))) }
     {
@@ -94,12 +86,12 @@ impl Lines {
     }
 
     /// Adds the line that shows a datum of a state, with what stands between it and the place.
-    fn add_data(
+    fn add_data<'e>(
         &mut self,
-        at: &[usize],
-        front: &str,
-        datum: &Datum,
-        state: &str,
+        at: &'e [usize],
+        front: &'e str,
+        datum: &'e Datum,
+        state: &'m str,
     ) -> Result<(), OutOfMemory>
         ensures { IfOk result (λ _. self.new.bytes.items ≡ self.old.bytes.items
             ++ data_line at.now front.now (view datum.now.value) state.now) }
@@ -112,35 +104,17 @@ impl Lines {
     }
 
     /// Adds the line of a data-flow fault.
-    fn add_fault<'e>(
-        &mut self,
-        at: &'e [usize],
-        error: &'e str,
-        field: &'e str,
-        state: &'e str,
-    ) -> Result<(), OutOfMemory>
-        ensures { IfOk result
-            (λ _. AddsEntry (at.now, raised_view state.now field.now (error_named error.now))
-            self.old.bytes.items self.new.bytes.items) }
-    {
-        self.add_raise(at, error, field, state)
-    }
-
-    /// Adds the line of an error by its name, and of the field where it was met.
-    fn add_raise<'e>(
-        &mut self,
-        at: &'e [usize],
-        error: &'e str,
-        field: &'e str,
-        state: &'e str,
-    ) -> Result<(), OutOfMemory>
+    fn add_raise(&mut self, at: &[usize], fault: Fault, state: &'m str) -> Result<(), OutOfMemory>
         ensures { IfOk result (λ _. self.new.bytes.items ≡ self.old.bytes.items
-            ++ (compact_text (raise_tree at.now error.now field.now state.now) ++ line_break)) }
+            ++ entry_line (at.now, model.Raised state.now (fault_view fault))) }
     {
         self.add_line(&[
             ("{\"at\":", Shown::Place(at)),
-            (",\"entry\":\"Raise\",\"error\":", Shown::Text(error)),
-            (",\"field\":", Shown::Text(field)),
+            (
+                ",\"entry\":\"Raise\",\"error\":",
+                Shown::Text(fault.error.name()),
+            ),
+            (",\"field\":", Shown::Text(fault.field)),
             (",\"state\":", Shown::Name(state)),
         ])
     }
@@ -151,7 +125,7 @@ impl Lines {
         at: &'e [usize],
         cause: &'e str,
         error: &'e str,
-        state: &'e str,
+        state: &'m str,
     ) -> Result<(), OutOfMemory>
         ensures { IfOk result (λ _. self.new.bytes.items ≡ self.old.bytes.items
             ++ entry_line (at.now, model.TaskFailed state.now error.now cause.now)) }
@@ -171,7 +145,7 @@ impl Lines {
         cause: &'e str,
         child: usize,
         error: &'e str,
-        state: &'e str,
+        state: &'m str,
     ) -> Result<(), OutOfMemory>
         ensures { IfOk result (λ _. self.new.bytes.items ≡ self.old.bytes.items
             ++ entry_line (at.now, model.BranchFailed state.now child error.now cause.now)) }
@@ -190,7 +164,7 @@ impl Lines {
         &mut self,
         at: &'e [usize],
         retrier: usize,
-        state: &'e str,
+        state: &'m str,
     ) -> Result<(), OutOfMemory>
         ensures { IfOk result (λ _. self.new.bytes.items ≡ self.old.bytes.items
             ++ entry_line (at.now, model.Retried state.now retrier)) }
@@ -211,7 +185,7 @@ impl Lines {
         at: &'e [usize],
         catcher: usize,
         next: &'e str,
-        state: &'e str,
+        state: &'m str,
     ) -> Result<(), OutOfMemory>
         ensures { IfOk result (λ _. self.new.bytes.items ≡ self.old.bytes.items
             ++ entry_line (at.now, model.Caught state.now catcher next.now)) }

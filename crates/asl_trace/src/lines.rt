@@ -15,22 +15,22 @@ use asl_tree::{OutOfMemory, same};
 use std::alloc::Global;
 use std::rc::Rc;
 
-/// The lines of a run's history so far.
+/// The lines of a history so far, of runs of a machine.
 #[derive(Drop)]
-pub struct Lines {
+pub struct Lines<'m> {
     alloc: Global,
     bytes: Vec<u8>,
     /// The datum that was shown last: what leaves a state enters the next one.
     last_datum: Option<WrittenDatum>,
     /// The name of a state that was shown last: what enters it and what leaves it have its name.
-    last_name: Option<WrittenName>,
+    last_name: Option<WrittenName<'m>>,
     /// The place that was shown last, but for the machine's own: what happens there in a step has one place.
     last_place: Option<WrittenPlace>,
 }
 
-impl Lines {
+impl<'m> Lines<'m> {
     /// No lines yet.
-    pub fn new(alloc: Global) -> Lines
+    pub fn new(alloc: Global) -> Lines<'m>
         ensures { lines_text result ≡ [] }
     {
         Lines {
@@ -44,14 +44,14 @@ impl Lines {
 
     /// The lines so far, as a text.
     pub fn into_bytes(self) -> Vec<u8>
-        ensures { result.items ≡ lines_text self }
+        ensures { result.items ≡ lines_text self.entry }
     {
         let Lines { bytes, .. } = self;
         bytes
     }
 
     /// Adds a line: an object of what is shown, each behind the text that stands in front of it.
-    pub(crate) fn add_line(&mut self, fields: &[(&str, Shown<'_>)]) -> Result<(), OutOfMemory>
+    pub(crate) fn add_line(&mut self, fields: &[(&str, Shown<'_, 'm>)]) -> Result<(), OutOfMemory>
         ensures { IfOk result
             (λ _. self.new.bytes.items ≡ self.old.bytes.items ++ line_of fields.now) }
     {
@@ -64,7 +64,7 @@ impl Lines {
     }
 
     /// Adds the text of what is shown.
-    fn show(&mut self, shown: Shown<'_>) -> Result<(), OutOfMemory>
+    fn show(&mut self, shown: Shown<'_, 'm>) -> Result<(), OutOfMemory>
         ensures { IfOk result (λ _. self.new.bytes.items
             ≡ self.old.bytes.items ++ compact_text (shown_tree shown.entry)) }
     {
@@ -78,7 +78,7 @@ impl Lines {
     }
 
     /// Adds the text of what is shown, which is made for it.
-    fn show_anew(&mut self, shown: Shown<'_>) -> Result<(), OutOfMemory>
+    fn show_anew(&mut self, shown: Shown<'_, 'm>) -> Result<(), OutOfMemory>
         ensures { IfOk result (λ _. self.new.bytes.items
             ≡ self.old.bytes.items ++ compact_text (shown_tree shown.entry)) }
     {
@@ -95,19 +95,18 @@ impl Lines {
     }
 
     /// Adds the text of a state's name, which is made only where another one was shown last.
-    fn show_name(&mut self, name: &str) -> Result<(), OutOfMemory>
+    fn show_name(&mut self, name: &'m str) -> Result<(), OutOfMemory>
         ensures { IfOk result (λ _. self.new.bytes.items
             ≡ self.old.bytes.items ++ compact_text (Text name.now)) }
     {
         if let Some(last) = &self.last_name {
-            if last.name.as_str() == name {
+            if last.name == name {
                 self.bytes.extend_from_slice(&last.text)?;
                 return Ok(());
             }
         }
         let text = text_of(self.alloc, Shown::Name(name))?;
         self.bytes.extend_from_slice(&text)?;
-        let name = String::from_str(self.alloc, name)?;
         self.last_name = Some(WrittenName { name, text });
         Ok(())
     }

@@ -15,10 +15,10 @@ const TEXT_ROOM: usize = 64;
 
 /// What a line shows behind a text that is the same in each line of its kind.
 #[derive(Clone, Copy)]
-pub(crate) enum Shown<'e> {
+pub(crate) enum Shown<'e, 'm> {
     Text(&'e str),
     /// The name of a state.
-    Name(&'e str),
+    Name(&'m str),
     Number(usize),
     /// The numbers of the children on the way.
     Place(&'e [usize]),
@@ -26,7 +26,7 @@ pub(crate) enum Shown<'e> {
 }
 
 /// The compact text of what is shown.
-pub(crate) fn text_of(alloc: Global, shown: Shown<'_>) -> Result<Vec<u8>, OutOfMemory>
+pub(crate) fn text_of(alloc: Global, shown: Shown<'_, '_>) -> Result<Vec<u8>, OutOfMemory>
     ensures { IfOk result (λ text. text.items ≡ compact_text (shown_tree shown.entry)) }
 {
     let mut writer = Writer::new(Vec::with_capacity(alloc, TEXT_ROOM)?);
@@ -35,7 +35,7 @@ pub(crate) fn text_of(alloc: Global, shown: Shown<'_>) -> Result<Vec<u8>, OutOfM
 }
 
 /// Writes what is shown.
-fn put(writer: &mut Writer, shown: Shown<'_>) -> Result<(), OutOfMemory>
+fn put(writer: &mut Writer, shown: Shown<'_, '_>) -> Result<(), OutOfMemory>
     ensures before { writer.new.before ≡ writer.old.before }
     ensures tokens { OnOk result (writer.new.tokens
         ≡ writer.old.tokens ++ tree_tokens (shown_tree shown.entry)) }

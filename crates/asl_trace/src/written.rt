@@ -1,6 +1,6 @@
 //! What stands in a trace, with its text.
 
-ghost use Rattle.std.specs.Prelude.{◌≡◌, string_bytes};
+ghost use Rattle.std.specs.Prelude.{◌≡◌};
 ghost use Rattle.asl_model.specs.Json.{compact_text};
 ghost use Rattle.asl_model.specs.TracePrinted.{numbers};
 ghost use Rattle.asl_model.specs.Tree.{Array, Text};
@@ -18,10 +18,10 @@ pub(crate) struct WrittenDatum {
 
 /// The name of a state with its JSON text.
 #[derive(Drop)]
-pub(crate) struct WrittenName {
-    pub(crate) name: String,
+pub(crate) struct WrittenName<'m> {
+    pub(crate) name: &'m str,
     pub(crate) text: Vec<u8>,
-    ghost right: { text.items ≡ compact_text (Text (string_bytes name)) },
+    ghost right: { text.items ≡ compact_text (Text name.now) },
 }
 
 /// A place with its JSON text.

@@ -22,14 +22,14 @@ fn cases(rt: &impl Abort, alloc: Global, cases: &str) -> Vec<Case> {
 }
 
 /// Plays a case.
-fn played(
+fn played<'m>(
     rt: &impl Abort,
     alloc: Global,
-    machine: &Machine,
+    machine: &'m Machine,
     declared: Option<&Declared>,
     case: &mut Case,
     max_steps: u64,
-) -> Played {
+) -> Played<'m> {
     let input = match &case.input {
         Input::Given(tree) => copy(alloc, tree).expect(rt, "memory"),
         Input::File(_) => Tree::Null,

@@ -8,5 +8,5 @@ use Rattle.asl_cases.proofs.asking.asked_place.Goals as goal
 pub returns-in-Some : goal.returns-in-Some
 returns-in-Some c =
     c.place_in.ensures
-    ∙ ap (λ o. unwrap_or (option_map (λ e. let told = entry_view e in place_in told.0 told.1) (option_copied o)) []) (sym c.in-Some.is)
+    ∙ ap (λ o. unwrap_or (option_map (λ e. place_in (entry_view e)) (option_copied o)) []) (sym c.in-Some.is)
     ∙ sym (asked_of c.args.trace.now c.last.result c.last.ensures.value)

@@ -13,8 +13,8 @@ use Rattle.asl_cases.proofs.playing.play.Goals as goal
 pub returns-then-fits_input : goal.returns-then-fits_input
 returns-then-fits_input c = λ m h. IfOk-weaker c.play_run.result _ _ (λ played run. is_run (sym c.if-fits_input.ensures) run) (c.play_run.ensures m h)
 
-pub returns-else-fits_input : goal.returns-else-fits_input
-returns-else-fits_input c = λ m h.
+pub returns : goal.returns
+returns c = λ m h.
     let shapes = option_map (λ (d : Bor Declared). declared_view d.now) c.args.declared in
     let answers = answers_under c.args.answers.now in
     let given = case_of m shapes (view c.args.input) answers in

@@ -1,13 +1,12 @@
-use Rattle.std.proofs.Common.{◌≡◌, List, ℕ, None, ◌+◌, ◌++◌, ◌∙◌, map, sym, ap, subst, arith}
+use Rattle.std.proofs.Common.{◌≡◌, List, None, ◌+◌, ◌++◌, ◌∙◌, map, sym, ap, subst, arith}
 use Rattle.asl_states.specs.Table.{Shows}
 use Rattle.asl_model.specs.Machine.{Scope}
-use Rattle.asl_model.specs.Run as model
 use Rattle.asl_model.specs.Run.{outcome_of, start}
 use Rattle.asl_model.specs.TracePrinted.{trace_text}
-use Rattle.asl_run.specs.Driving.{placed_entry, policy_of}
+use Rattle.asl_run.specs.Driving.{policy_of}
 use Rattle.asl_run.specs.Entries.{entry_view}
 use Rattle.asl_run.specs.Running.{run_view}
-use Rattle.asl_run.specs.declared.entries.Entry as code
+use Rattle.asl_run.specs.declared.entries.Entry.{Entry}
 use Rattle.asl_trace.specs.Lines.{lines_text}
 use Rattle.asl_tree.specs.View.{view}
 use Rattle.asl_texts.specs.Tracing.{begun}
@@ -35,15 +34,15 @@ pub returns-in_default : goal.returns-in_default
 returns-in_default g c = λ m h.
     let so_far = c.steps.invariant in
     let lines = lines_text c.add.new.self in
-    let P : List code.Entry → Type 0 = λ es. (told : List (List ℕ × model.Entry)) → map entry_view es ≡ map placed_entry told → lines ≡ lines_text c.steps.lines ++ trace_text told in
+    let P : List Entry → Type 0 = λ es. lines ≡ lines_text c.steps.lines ++ trace_text (map entry_view es) in
     stopped_there c.args.max_steps c.in-Ok-drive.driven.0 (omega arith) c.in_default.not-StepsSpent (so_far.written m h) (c.in-Ok-drive.ensures.stops m (so_far.run m h))
-    (record { picks = λ n k e. e; gives = λ n t answer e. e }) (record { picks = so_far.lasting_order; gives = so_far.lasting }) (so_far.lasting_silent c.drive.new.answers) (λ told same. c.into_bytes.ensures ∙ subst P c.deref.ensures.value c.in_ok-add.ensures told same)
+    (record { picks = λ n k e. e; gives = λ n t answer e. e }) (record { picks = so_far.lasting_order; gives = so_far.lasting }) (so_far.lasting_silent c.drive.new.answers) (c.into_bytes.ensures ∙ subst P c.deref.ensures.value c.in_ok-add.ensures)
 
 pub steps-preserved : goal.steps-preserved
 steps-preserved g c =
     let so_far = c.steps.invariant in
     let lines = lines_text c.add.new.self in
-    let P : List code.Entry → Type 0 = λ es. (told : List (List ℕ × model.Entry)) → map entry_view es ≡ map placed_entry told → lines ≡ lines_text c.steps.lines ++ trace_text told in
+    let P : List Entry → Type 0 = λ es. lines ≡ lines_text c.steps.lines ++ trace_text (map entry_view es) in
     let policy = policy_of (g.O.Order.may_pick c.args.order.now) (g.A.Answers.may_give c.args.answers.now) (g.A.Answers.may_be_silent c.args.answers.now c.drive.new.answers) in
     let left = g.A.Answers.content c.drive.new.answers in
     let more : (m : Scope) → Shows c.args.machine.now m

@@ -7,26 +7,26 @@ pub returns-in-Ok-clause-taken : goal.returns-in-Ok-clause-taken
 returns-in-Ok-clause-taken c = λ m run.
     so_taken c.args.self.now.machine.now m (event_view c.args.event).place (run_view c.args.self.now) (run_view c.take.new.self) (event_view c.args.event).action c.take.result _ c.in-Ok.is run.shown run.stands c.take.ensures.steps
 
-pub returns-in-Err-clause-unchanged : goal.returns-in-Err-clause-unchanged
-returns-in-Err-clause-unchanged c = λ m run.
+pub returns-clause-unchanged : goal.returns-clause-unchanged
+returns-clause-unchanged c = λ m run.
     so_unchanged c.args.self.now.machine.now m (event_view c.args.event).place (run_view c.args.self.now) (run_view c.take.new.self) (event_view c.args.event).action c.take.result c.in-Err.refusal c.in-Err.is run.shown run.stands c.take.ensures.steps
 
-pub returns-in-Err-clause-no_place : goal.returns-in-Err-clause-no_place
-returns-in-Err-clause-no_place c = λ m run.
+pub returns-clause-no_place : goal.returns-clause-no_place
+returns-clause-no_place c = λ m run.
     let place = (event_view c.args.event).place in
     let action = (event_view c.args.event).action in
     let before = run_view c.args.self.now in
     so_no_place c.in-Err.refusal place m before action (so_refused c.args.self.now.machine.now m place before (run_view c.take.new.self) action c.take.result c.in-Err.refusal c.in-Err.is run.shown run.stands c.take.ensures.steps)
 
-pub returns-in-Err-clause-not_enabled : goal.returns-in-Err-clause-not_enabled
-returns-in-Err-clause-not_enabled c = λ m run.
+pub returns-clause-not_enabled : goal.returns-clause-not_enabled
+returns-clause-not_enabled c = λ m run.
     let place = (event_view c.args.event).place in
     let action = (event_view c.args.event).action in
     let before = run_view c.args.self.now in
     so_not_enabled c.in-Err.refusal place m before action (so_refused c.args.self.now.machine.now m place before (run_view c.take.new.self) action c.take.result c.in-Err.refusal c.in-Err.is run.shown run.stands c.take.ensures.steps)
 
-pub returns-in-Err-clause-enabled : goal.returns-in-Err-clause-enabled
-returns-in-Err-clause-enabled c = λ m run.
+pub returns-clause-enabled : goal.returns-clause-enabled
+returns-clause-enabled c = λ m run.
     let place = (event_view c.args.event).place in
     let action = (event_view c.args.event).action in
     let before = run_view c.args.self.now in

@@ -34,8 +34,8 @@ returns-in-Ok-change c =
     let planned = subst (λ (l : List Node). IsPlanned c.args.self l c.in-Some.number.0 c.plan_at.result) c.nodes-nodes.ensures c.plan_at.ensures.planned in
     taken_along c.args.self c.args.standing.now c.change.new.self table c.in-Some.number.0 at c.plan_at.result c.in-Ok.plan c.in-Ok.is planned c.in-Ok-change.ensures.changed _ refl
 
-pub returns-in-Err-change : goal.returns-in-Err-change
-returns-in-Err-change c =
+pub returns : goal.returns
+returns c =
     let table = subst IsTable c.nodes-nodes.ensures c.number_at.ensures.table in
     let at = subst (λ (l : List Node). number_from l 0 c.args.self.at.now ≡ Some c.in-Some.number.0) c.nodes-nodes.ensures (sym c.number_at.ensures.number ∙ ap (option_map (λ n. n.0)) c.in-Some.is) in
     let planned = subst (λ (l : List Node). IsPlanned c.args.self l c.in-Some.number.0 c.plan_at.result) c.nodes-nodes.ensures c.plan_at.ensures.planned in

@@ -1,6 +1,7 @@
-use Rattle.asl_trace.proofs.Traces.{AddsSoFar}
+use Rattle.std.proofs.Common.{◌≡◌, ◌++◌}
+use Rattle.asl_trace.proofs.Traces.{lines_of}
 use Rattle.asl_trace.proofs.lines.Lines.add.Given as goal
 
 -- the lines so far
 abbrev pub invariant-loop-entry : goal.invariant-loop-entry
-invariant-loop-entry l = AddsSoFar l.entries l.entry-index l.fn.self.bytes.items l.self.bytes.items
+invariant-loop-entry l = l.self.bytes.items ≡ l.fn.self.bytes.items ++ lines_of l.entry-index l.entries

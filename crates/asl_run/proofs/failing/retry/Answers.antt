@@ -1,5 +1,5 @@
 use Rattle.asl_run.proofs.Planned.{retried_so}
-use Rattle.asl_run.proofs.troubling.retry.Goals as goal
+use Rattle.asl_run.proofs.failing.retry.Goals as goal
 
 pub returns : goal.returns
 returns c =

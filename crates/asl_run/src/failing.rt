@@ -18,14 +18,18 @@ use asl_states::Target;
 use asl_tree::OutOfMemory;
 
 /// The state is in trouble with an error and a cause.
-pub(crate) fn in_trouble(here: &Here, error: &str, cause: &str) -> Result<Plan, OutOfMemory>
+pub(crate) fn in_trouble<'m>(
+    here: &Here<'_, 'm>,
+    error: &str,
+    cause: &str,
+) -> Result<Plan<'m>, OutOfMemory>
     ensures { IfOk result
         (λ plan. Plans here.now plan (by_settings model.troubled here.now error.now cause.now)) }
 {
     let settings = &here.state.settings;
     let visit = here.visit;
     match trouble_of(
-        here.alloc,
+        here.happening.alloc,
         settings,
         &visit.raw,
         &visit.counts,
@@ -44,27 +48,32 @@ pub(crate) fn in_trouble(here: &Here, error: &str, cause: &str) -> Result<Plan, 
 }
 
 /// The retrier of that number retries.
-fn retry(here: &Here, retrier: usize) -> Result<Plan, OutOfMemory>
+fn retry<'m>(here: &Here<'_, 'm>, retrier: usize) -> Result<Plan<'m>, OutOfMemory>
     requires { CanRise here.now.visit.now.counts.items retrier }
     ensures { IfOk result (λ plan. (error cause : List ℕ)
         → Plans here.now plan (by_trouble_at here.now error cause (model.Retries retrier))) }
 {
-    Plan::new(here.alloc, Change::Retry(retrier)).after(here.retried(retrier))
+    Plan::new(here.happening.alloc, Change::Retry(retrier)).after(here.retried(retrier))
 }
 
 /// The catcher of that number hands this input to that state.
-fn hand_on(here: &Here, catcher: usize, next: &Target, input: Datum) -> Result<Plan, OutOfMemory>
+fn hand_on<'m>(
+    here: &Here<'_, 'm>,
+    catcher: usize,
+    next: &'m Target,
+    input: Datum,
+) -> Result<Plan<'m>, OutOfMemory>
     ensures { IfOk result (λ plan. MayFollow here.now next.now
         → (error cause : List ℕ) → Plans here.now plan (by_trouble_at here.now error cause
         (model.Catches catcher (target_name next.now) (view input.value)))) }
 {
     let told = here.caught(catcher, next);
-    let entered = Visit::new(here.alloc, next.number, input);
-    Plan::new(here.alloc, Change::Enter(entered)).after(told)
+    let entered = Visit::new(here.happening.alloc, next.number, input);
+    Plan::new(here.happening.alloc, Change::Enter(entered)).after(told)
 }
 
 /// A catcher's output can't be placed: that is a fault, which nothing takes.
-fn misfit(here: &Here) -> Result<Plan, OutOfMemory>
+fn misfit<'m>(here: &Here<'_, 'm>) -> Result<Plan<'m>, OutOfMemory>
     ensures { IfOk result (λ plan. (error cause : List ℕ)
         → Plans here.now plan (by_trouble_at here.now error cause model.Misfits)) }
 {
@@ -78,7 +87,7 @@ fn misfit(here: &Here) -> Result<Plan, OutOfMemory>
 
 /// The state has met a data-flow fault: it is raised, and the state is in trouble with its error and, as the cause, its
 /// field.
-pub(crate) fn raise(here: &Here, fault: Fault) -> Result<Plan, OutOfMemory>
+pub(crate) fn raise<'m>(here: &Here<'_, 'm>, fault: Fault) -> Result<Plan<'m>, OutOfMemory>
     ensures { IfOk result
         (λ plan. Plans here.now plan (by_settings model.faulted here.now (fault_view fault))) }
 {

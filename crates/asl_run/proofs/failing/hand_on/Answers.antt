@@ -1,5 +1,5 @@
 use Rattle.asl_run.proofs.Planned.{handed_on}
-use Rattle.asl_run.proofs.troubling.hand_on.Goals as goal
+use Rattle.asl_run.proofs.failing.hand_on.Goals as goal
 
 pub returns : goal.returns
 returns c =

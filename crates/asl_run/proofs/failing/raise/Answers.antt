@@ -1,5 +1,5 @@
 use Rattle.asl_run.proofs.Planned.{raised_so}
-use Rattle.asl_run.proofs.troubling.raise.Goals as goal
+use Rattle.asl_run.proofs.failing.raise.Goals as goal
 
 pub returns : goal.returns
 returns c =

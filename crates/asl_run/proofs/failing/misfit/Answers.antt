@@ -1,5 +1,5 @@
 use Rattle.asl_run.proofs.Planned.{misfitted}
-use Rattle.asl_run.proofs.troubling.misfit.Goals as goal
+use Rattle.asl_run.proofs.failing.misfit.Goals as goal
 
 pub returns : goal.returns
 returns c =
