@@ -1,6 +1,6 @@
 //! From a definition to declared shapes to begin with, on standard output.
 
-use asl_files::{end, or_out_of_memory, print_line, text_or_status};
+use asl_files::{end, print_line, text_or_status};
 use asl_samples::declared_text;
 use asl_tool::{RunFault, read_definition};
 use std::rt::Files;
@@ -22,6 +22,6 @@ pub(crate) fn declare_file<R: Files + Input + Print + Eprint + AllocGlobal>(
 /// Refused: Text for a text that is no definition; Write; OutOfMemory.
 fn declared_on<R: Print + AllocGlobal>(rt: &R, text: &[u8]) -> Result<u8, RunFault> {
     let machine = read_definition(rt.alloc(), text)?;
-    print_line(rt, or_out_of_memory(declared_text(rt.alloc(), &machine))?)?;
+    print_line(rt, declared_text(rt.alloc(), &machine)?)?;
     Ok(0)
 }

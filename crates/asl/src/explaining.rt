@@ -2,7 +2,7 @@
 
 use asl_command_line::ExplainRequest;
 use asl_explain::{Explained, explain_texts};
-use asl_files::{ROUNDS, end, finish, or_out_of_memory, print_text, text_or_status};
+use asl_files::{ROUNDS, end, finish, print_text, text_or_status};
 use asl_tool::{Closing, RunFault};
 use asl_tree::{OutOfMemory, quoted};
 use std::alloc::Global;
@@ -49,7 +49,7 @@ fn explained_on<R: Print + Eprint + AllocGlobal>(
             Ok(0)
         }
         Explained::NoSuchState => {
-            let line = or_out_of_memory(no_such_state(alloc, request.state.unwrap_or("")))?;
+            let line = no_such_state(alloc, request.state.unwrap_or(""))?;
             let _ = rt.eprint(&line);
             Ok(2)
         }

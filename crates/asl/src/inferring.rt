@@ -69,10 +69,8 @@ fn tell_certificate<R: Print>(rt: &R, text: String) -> Result<Closing, RunFault>
 /// Writes a finding to standard output, as a verdict of one line.
 fn tell_finding<R: Print + AllocGlobal>(rt: &R, finding: Finding) -> Result<Closing, RunFault> {
     let mut findings = Vec::new(rt.alloc());
-    match findings.push(finding) {
-        Ok(()) => tell_verdict(rt, Verdict::No(findings)),
-        Err(_) => Err(RunFault::OutOfMemory),
-    }
+    findings.push(finding)?;
+    tell_verdict(rt, Verdict::No(findings))
 }
 
 /// Writes a verdict to standard output.

@@ -2,7 +2,7 @@
 
 use asl_command_line::ShapeRequest;
 use asl_diagnostics::rule_of_text;
-use asl_files::{end, or_out_of_memory, print_line, text_or_why};
+use asl_files::{end, print_line, text_or_why};
 use asl_samples::{opened, shape_of, shape_text};
 use asl_shape::Shape;
 use asl_tool::RunFault;
@@ -35,14 +35,14 @@ fn shape_on<R: Files + Input + Print + Eprint + AllocGlobal>(
     rt: &R,
     request: &ShapeRequest<'_>,
 ) -> Result<u8, RunFault> {
-    let samples = or_out_of_memory(samples_in(rt, &request.names))?;
+    let samples = samples_in(rt, &request.names)?;
     if !samples.notes.is_empty() {
         let _ = rt.eprint(&samples.notes);
         return Ok(2);
     }
-    match or_out_of_memory(shape_of(rt.alloc(), &samples.trees))? {
+    match shape_of(rt.alloc(), &samples.trees)? {
         Some(shape) => {
-            let text = or_out_of_memory(text_of(rt.alloc(), shape, request.is_open))?;
+            let text = text_of(rt.alloc(), shape, request.is_open)?;
             print_line(rt, text)?;
             Ok(0)
         }

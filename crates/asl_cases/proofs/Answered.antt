@@ -7,7 +7,7 @@ use Rattle.asl_model.specs.Numbering.{Table, table_of, IsWellNamed}
 use Rattle.asl_model.specs.Run.{Activity, Action, Gives, StandsIn, enabled, outcome_of}
 use Rattle.asl_model.proofs.RunOptions.{some_inj}
 use Rattle.asl_run.specs.Driving as driving
-use Rattle.asl_run.specs.Driving.{Drives, Policy, TurnIsUnanswered, Told}
+use Rattle.asl_run.specs.Driving.{Drives, Policy, Told}
 use Rattle.asl_run.specs.declared.driving.Stop.{Stop}
 use Rattle.asl_run.specs.declared.driving.Stop.TheVariants as stops
 use Rattle.asl_suites.specs.Scripts.{StateScripts, ByAttempt, ByItem, answer_of, left_of}

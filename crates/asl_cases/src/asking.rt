@@ -40,6 +40,7 @@ fn place_in<'e>(entry: &'e Entry<'_>) -> &'e [usize]
 }
 
 /// The number of the item of the innermost Map that the state stands in, at that place; none where it stands in none.
+#[tactic(auto, using(crate::proofs::Around::item_step, crate::proofs::Around::none_further))]
 pub(crate) fn item_at(machine: &Machine, state: usize, place: &[usize]) -> Option<usize>
     ensures { result ≡ item_at (table_view machine.now) state place.now }
 {
@@ -141,6 +142,7 @@ fn is_item(meant: Option<usize>, item: Option<usize>) -> bool
 }
 
 /// Whether the answers of the state of that name are by item.
+#[tactic(auto, using(crate::proofs::NamedKinds::kind_among, crate::proofs::NamedKinds::kind_known))]
 fn is_by_item(answers: &CaseAnswers, name: &str) -> bool
     ensures { result ≡ are_by_item (answers_under answers.now name.now) }
 {

@@ -1,7 +1,7 @@
 -- What a value is, and what the tree is by which it is read.
 use Rattle.std.proofs.Common.{◌≡◌, false, not, ◌&&◌, option_map, unwrap_or, is_some, refl}
 use Rattle.serde_json.specs.Data as json
-use Rattle.serde_json.specs.Data.{Data, Num, unsigned, negative, float}
+use Rattle.serde_json.specs.Data.{Data, unsigned, negative, float}
 use Rattle.serde_json.specs.Find.{as_str, as_bool, as_number, is_float}
 use Rattle.asl_model.specs.Test.{as_text, as_integer, as_boolean}
 use Rattle.asl_tree.specs.Values.{whole}

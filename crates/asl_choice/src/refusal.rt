@@ -1,7 +1,6 @@
 //! Why a value spells no rule.
 
-use asl_tree::OutOfMemory;
-use std::alloc::{AllocError, AllocFailed};
+use asl_tree::WantOfMemory;
 
 /// Why a value spells no rule.
 #[derive(Clone, Copy, Debug, Drop)]
@@ -28,35 +27,13 @@ pub enum RuleRefusal {
     OutOfMemory,
 }
 
-impl From<OutOfMemory> for RuleRefusal {
+impl<E: WantOfMemory + Drop> From<E> for RuleRefusal {
     ghost use Rattle.std.specs.Prelude.{◌≡◌};
     ghost use Rattle.asl_choice.specs.declared.refusal.RuleRefusal.{RuleRefusal};
 
     ghost from_gives = { λ _ refusal. refusal ≡ RuleRefusal.OutOfMemory };
 
-    fn from(_error: OutOfMemory) -> RuleRefusal {
-        RuleRefusal::OutOfMemory
-    }
-}
-
-impl From<AllocError> for RuleRefusal {
-    ghost use Rattle.std.specs.Prelude.{◌≡◌};
-    ghost use Rattle.asl_choice.specs.declared.refusal.RuleRefusal.{RuleRefusal};
-
-    ghost from_gives = { λ _ refusal. refusal ≡ RuleRefusal.OutOfMemory };
-
-    fn from(_error: AllocError) -> RuleRefusal {
-        RuleRefusal::OutOfMemory
-    }
-}
-
-impl<T: Drop> From<AllocFailed<T>> for RuleRefusal {
-    ghost use Rattle.std.specs.Prelude.{◌≡◌};
-    ghost use Rattle.asl_choice.specs.declared.refusal.RuleRefusal.{RuleRefusal};
-
-    ghost from_gives = { λ _ refusal. refusal ≡ RuleRefusal.OutOfMemory };
-
-    fn from(_error: AllocFailed<T>) -> RuleRefusal {
+    fn from(_want: E) -> RuleRefusal {
         RuleRefusal::OutOfMemory
     }
 }

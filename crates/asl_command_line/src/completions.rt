@@ -7,7 +7,7 @@ mod zsh;
 
 use crate::commands::{FILES, program};
 use crate::requests::Shell;
-use asl_files::{end, or_out_of_memory, print_text};
+use asl_files::{end, print_text};
 use asl_texts::RunFault;
 use asl_tree::OutOfMemory;
 use clap::builder::{ValueParser, ValueRange};
@@ -40,7 +40,7 @@ pub fn print_completions<R: Print + Eprint + AllocGlobal>(rt: &R, shell: Shell) 
 ///
 /// Refused: Write; OutOfMemory.
 fn completions_on<R: Print + AllocGlobal>(rt: &R, shell: Shell) -> Result<u8, RunFault> {
-    print_text(rt, &or_out_of_memory(script(rt.alloc(), shell))?)?;
+    print_text(rt, &script(rt.alloc(), shell)?)?;
     Ok(0)
 }
 

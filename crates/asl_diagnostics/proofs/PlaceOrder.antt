@@ -1,7 +1,6 @@
 -- Diagnostics are in a total order by their places.
 use Rattle.std.specs.Cmp.{IsTotalOrder, IsStrictWeakOrder}
-use Rattle.std.specs.Ordering.{nat_cmp}
-use Rattle.std.specs.String.{string_cmp, string_cmp_total}
+use Rattle.std.specs.String.{string_cmp_total}
 use Rattle.std.proofs.lemmas.Cmp.{nat_cmp_total, on_total, then_total}
 use Rattle.std.proofs.lemmas.List.MinMax.{ranks_by}
 use Rattle.asl_diagnostics.specs.Order.{place_cmp, stands_before}

@@ -1,5 +1,5 @@
 -- What the rounds of an inference come to is one thing: a certificate, a finding, or no end.
-use Rattle.std.proofs.Common.{◌≡◌, ◌+◌, ◌-◌, ℕ, zero, suc, Ok, Err, refl, sym, ap, ◌∙◌, subst, arith}
+use Rattle.std.proofs.Common.{◌≡◌, ◌+◌, ◌-◌, ℕ, zero, suc, Ok, Err, sym, ap, ◌∙◌, subst, arith}
 use Rattle.asl_model.specs.Certificate.{Certificate, Declared}
 use Rattle.asl_model.specs.Finding.{Finding}
 use Rattle.asl_model.specs.Numbering.{Table}

@@ -1,5 +1,5 @@
 -- What is explained where verifying says that.
-use Rattle.std.proofs.Common.{◌≡◌, ℕ, List, sym, subst}
+use Rattle.std.proofs.Common.{◌≡◌, ℕ, sym, subst}
 use Rattle.asl_model.specs.Names.{Bytes}
 use Rattle.asl_check.specs.declared.verdicts.Verdict.TheVariants as checked
 use Rattle.asl_tool.specs.Inferred.{AreFewRounds, IsFindingOn}

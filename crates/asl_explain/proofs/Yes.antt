@@ -1,5 +1,5 @@
 -- There is nothing to explain exactly where the verdict is yes.
-use Rattle.std.proofs.Common.{◌≡◌, ◌↔◌, ℕ, List, [], ◌∷◌, refl, sym, subst, arith}
+use Rattle.std.proofs.Common.{◌≡◌, ◌↔◌, ℕ, List, [], ◌∷◌, refl, subst, arith}
 use Rattle.std.specs.List.{Contains}
 use Rattle.asl_model.specs.Certificate.{Certificate, Declared}
 use Rattle.asl_model.specs.Finding.{Finding, findings}
@@ -11,7 +11,6 @@ use Rattle.asl_model.specs.Verdict as verdict
 use Rattle.asl_model.specs.Verdict.{Accepted, Rejected, IsTelling}
 use Rattle.asl_model.proofs.ReadingLaws.{none_listed, text_has_one_declared, text_has_one_machine}
 use Rattle.asl_draft_laws.specs.Drafts.{IsInferred}
-use Rattle.asl_check.specs.View.{verdict_view}
 use Rattle.asl_check.specs.declared.verdicts.Verdict.TheVariants as checked
 use Rattle.asl_tool.specs.Inferred.{AreFewRounds, IsFindingOn}
 use Rattle.asl_tool.specs.VerifiedInference.{IsVerdictOnInferred, Tells, WhereVerdict}

@@ -85,7 +85,7 @@ fn explain_named(
     ensures refused { IfErr result (SubjectFaultStands definition.now declared.now) }
 {
     let subject = read_subject(alloc, definition, declared)?;
-    told_or_fault(explain_state(alloc, &subject, name, max_rounds))
+    Ok(explain_state(alloc, &subject, name, max_rounds)?)
 }
 
 /// Explains each broken rule.
@@ -122,22 +122,9 @@ fn explain_verified(
 {
     match verified {
         Verified::Verdict(Verdict::Yes) => Ok(Explained::Nothing),
-        Verified::Verdict(Verdict::No(findings)) => {
-            told_or_fault(texts.explain_findings(alloc, findings))
-        }
-        Verified::Finding(finding) => told_or_fault(texts.explain_finding(alloc, finding)),
+        Verified::Verdict(Verdict::No(findings)) => { Ok(texts.explain_findings(alloc, findings)?) }
+        Verified::Finding(finding) => Ok(texts.explain_finding(alloc, finding)?),
         Verified::NotSettled => Ok(Explained::NotSettled),
-    }
-}
-
-/// What is explained, or that memory ran out.
-fn told_or_fault(told: Result<Explained, OutOfMemory>) -> Result<Explained, RunFault>
-    ensures told { IfOk result (λ explained. told ≡ Ok explained) }
-    ensures refused { IfErr result (λ fault. fault ≡ faults.OutOfMemory) }
-{
-    match told {
-        Ok(explained) => Ok(explained),
-        Err(_) => Err(RunFault::OutOfMemory),
     }
 }
 

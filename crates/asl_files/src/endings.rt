@@ -1,7 +1,6 @@
 //! How the program ends: the line on standard error and the exit status.
 
 use asl_texts::{Closing, RunFault, closing};
-use asl_tree::OutOfMemory;
 
 /// Writes the closing's line to standard error and gives its exit status.
 pub fn finish<R: Eprint + AllocGlobal>(rt: &R, end: &Closing) -> u8 {
@@ -24,14 +23,6 @@ pub fn end<R: Eprint + AllocGlobal>(rt: &R, ended: Result<u8, RunFault>) -> u8 {
     match ended {
         Ok(status) => status,
         Err(fault) => finish(rt, &Closing::Fault(fault)),
-    }
-}
-
-/// What was made, or that there was no memory to make it.
-pub fn or_out_of_memory<T>(made: Result<T, OutOfMemory>) -> Result<T, RunFault> {
-    match made {
-        Ok(made) => Ok(made),
-        Err(_) => Err(RunFault::OutOfMemory),
     }
 }
 

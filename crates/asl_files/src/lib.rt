@@ -7,7 +7,7 @@ mod files;
 mod printing;
 mod requests;
 
-pub use endings::{end, finish, finish_with, or_out_of_memory};
+pub use endings::{end, finish, finish_with};
 pub use files::{
     Unread, file_source, file_text, input_source, is_input, text_or_status, text_or_why,
 };

@@ -1,6 +1,5 @@
 //! What goes to standard output.
 
-use crate::endings::or_out_of_memory;
 use asl_texts::{RunFault, Verdict, verdict_text};
 use asl_tree::OutOfMemory;
 use std::io::{self, Write};
@@ -19,7 +18,7 @@ pub fn print_text<R: Print>(rt: &R, text: &str) -> Result<(), RunFault> {
 ///
 /// Refused: Write; OutOfMemory.
 pub fn print_line<R: Print>(rt: &R, text: String) -> Result<(), RunFault> {
-    print_text(rt, &or_out_of_memory(with_break(text))?)
+    print_text(rt, &with_break(text)?)
 }
 
 /// The text and a line break.
@@ -32,5 +31,5 @@ pub fn with_break(mut text: String) -> Result<String, OutOfMemory> {
 ///
 /// Refused: Write; OutOfMemory.
 pub fn print_verdict<R: Print + AllocGlobal>(rt: &R, verdict: &Verdict) -> Result<(), RunFault> {
-    print_text(rt, &or_out_of_memory(verdict_text(rt.alloc(), verdict))?)
+    print_text(rt, &verdict_text(rt.alloc(), verdict)?)
 }

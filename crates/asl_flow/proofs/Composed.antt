@@ -1,5 +1,5 @@
 -- Numbers for the shapes of what stands in a list or a map, as they grow, and the shapes that are made of them.
-use Rattle.std.proofs.Common.{◌≡◌, ℕ, List, [], ◌∷◌, ◌++◌, length, map, true, String, Global, string_bytes, string_cmp, Vec, Result, refl, sym, ap, ◌∙◌, subst, arith}
+use Rattle.std.proofs.Common.{◌≡◌, ℕ, List, [], ◌∷◌, ◌++◌, length, map, true, String, Global, string_bytes, string_cmp, Vec, Result, refl, ap, ◌∙◌}
 use Rattle.std.specs.BTreeMap.{insert_entry}
 use Rattle.std.specs.List.Sorted.{IsStrictlySortedBy}
 use Rattle.std.specs.Map.{keys_of}
@@ -9,7 +9,7 @@ use Rattle.asl_shape.specs.View.{shapes_of}
 use Rattle.asl_tree.specs.declared.OutOfMemory.{OutOfMemory}
 use Rattle.asl_numbered.specs.declared.node.Node.TheVariants.{List as Elements}
 use Rattle.asl_numbered.specs.declared.node.NodeField.{NodeField}
-use Rattle.asl_numbered.specs.Expansion.{shape_at, shapes_at, fields_at, shape_over, numbers_in, AreBelow, RefersBelow, AreNumbersOf, AreFieldsOf, Keeps, Shows}
+use Rattle.asl_numbered.specs.Expansion.{shape_at, shapes_at, fields_at, shape_over, AreBelow, RefersBelow, AreNumbersOf, AreFieldsOf, Keeps, Shows}
 use Rattle.asl_numbered.proofs.Appending.{names, appended}
 use Rattle.asl_numbered.proofs.Growing.{numbers_push, numbers_kept, fields_kept}
 use Rattle.asl_numbered.specs.Laws.{below-append}

@@ -1,8 +1,7 @@
 -- What paths go into, in a table that has grown.
-use Rattle.std.proofs.Common.{◌≡◌, ◌<◌, ℕ, List, length, Option, Some, None, option_map, refl, ap, subst}
-use Rattle.std.specs.Prelude.{IfSome}
+use Rattle.std.proofs.Common.{◌≡◌, ◌<◌, List, length, Option, subst}
 use Rattle.asl_model.specs.Shape.{Shape}
-use Rattle.asl_numbered.specs.Expansion.{shape_at, Keeps}
+use Rattle.asl_numbered.specs.Expansion.{Keeps}
 use Rattle.asl_numbered.specs.Laws.{kept_item, kept_item_within, kept_shape, kept_within}
 use Rattle.asl_flow.specs.Sources.{input_of, item_of, IsWithin}
 use Rattle.asl_flow.specs.declared.references.Sources.{Sources}

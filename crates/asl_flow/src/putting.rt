@@ -23,8 +23,8 @@ use asl_model::shape_laws::put_means_placed;
 use asl_numbered::{Node, NodeField, Shapes};
 use asl_path::{RefPath, Segment};
 use asl_shape::Shape;
-use asl_tree::OutOfMemory;
-use std::alloc::{AllocFailed, Global};
+use asl_tree::{OutOfMemory, WantOfMemory};
+use std::alloc::Global;
 use std::collections::BTreeMap;
 
 /// Why a shape can't be put into another.
@@ -36,22 +36,12 @@ pub enum PutRefusal {
     OutOfMemory,
 }
 
-impl<T: Drop> From<AllocFailed<T>> for PutRefusal {
+impl<E: WantOfMemory + Drop> From<E> for PutRefusal {
     ghost use Rattle.asl_flow.specs.declared.putting.PutRefusal.{PutRefusal};
 
     ghost from_gives = { λ _ refusal. refusal ≡ PutRefusal.OutOfMemory };
 
-    fn from(_error: AllocFailed<T>) -> PutRefusal {
-        PutRefusal::OutOfMemory
-    }
-}
-
-impl From<OutOfMemory> for PutRefusal {
-    ghost use Rattle.asl_flow.specs.declared.putting.PutRefusal.{PutRefusal};
-
-    ghost from_gives = { λ _ refusal. refusal ≡ PutRefusal.OutOfMemory };
-
-    fn from(_error: OutOfMemory) -> PutRefusal {
+    fn from(_want: E) -> PutRefusal {
         PutRefusal::OutOfMemory
     }
 }

@@ -26,8 +26,8 @@ use asl_model::shape_laws::template_shape_means_a_value;
 use asl_numbered::{NodeField, Shapes};
 use asl_shape::Shape;
 use asl_template::Template;
-use asl_tree::{OutOfMemory, Tree};
-use std::alloc::{AllocError, AllocFailed, Global};
+use asl_tree::{OutOfMemory, Tree, WantOfMemory};
+use std::alloc::Global;
 use std::collections::BTreeMap;
 
 /// Why a template has no shape. The name is that of the nearest field of an object, without its suffix, and empty where
@@ -42,32 +42,12 @@ pub enum TemplateShapeRefusal {
     OutOfMemory,
 }
 
-impl From<AllocError> for TemplateShapeRefusal {
+impl<E: WantOfMemory + Drop> From<E> for TemplateShapeRefusal {
     ghost use Rattle.asl_flow.specs.declared.templates.TemplateShapeRefusal.{TemplateShapeRefusal};
 
     ghost from_gives = { λ _ refusal. refusal ≡ TemplateShapeRefusal.OutOfMemory };
 
-    fn from(_error: AllocError) -> TemplateShapeRefusal {
-        TemplateShapeRefusal::OutOfMemory
-    }
-}
-
-impl<T: Drop> From<AllocFailed<T>> for TemplateShapeRefusal {
-    ghost use Rattle.asl_flow.specs.declared.templates.TemplateShapeRefusal.{TemplateShapeRefusal};
-
-    ghost from_gives = { λ _ refusal. refusal ≡ TemplateShapeRefusal.OutOfMemory };
-
-    fn from(_error: AllocFailed<T>) -> TemplateShapeRefusal {
-        TemplateShapeRefusal::OutOfMemory
-    }
-}
-
-impl From<OutOfMemory> for TemplateShapeRefusal {
-    ghost use Rattle.asl_flow.specs.declared.templates.TemplateShapeRefusal.{TemplateShapeRefusal};
-
-    ghost from_gives = { λ _ refusal. refusal ≡ TemplateShapeRefusal.OutOfMemory };
-
-    fn from(_error: OutOfMemory) -> TemplateShapeRefusal {
+    fn from(_want: E) -> TemplateShapeRefusal {
         TemplateShapeRefusal::OutOfMemory
     }
 }

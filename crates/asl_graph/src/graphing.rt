@@ -69,18 +69,7 @@ fn draw_alone(alloc: Global, definition: &[u8], format: Format) -> Result<Drawn,
     let machine = read_definition(alloc, definition)?;
     let known: Option<Known> = None;
     let picture = picture_of(alloc, definition, &machine, known.as_ref(), format);
-    Ok(Drawn::Graph(or_out_of_memory(picture)?))
-}
-
-/// What was made, or that memory ran out.
-fn or_out_of_memory<T: Drop>(made: Result<T, OutOfMemory>) -> Result<T, RunFault>
-    ensures made { IfOk result (λ it. made ≡ Ok it) }
-    ensures refused { IfErr result (λ fault. fault ≡ faults.OutOfMemory) }
-{
-    match made {
-        Ok(made) => Ok(made),
-        Err(_) => Err(RunFault::OutOfMemory),
-    }
+    Ok(Drawn::Graph(picture?))
 }
 
 /// A picture that is wanted of a definition with declared shapes.
@@ -100,7 +89,7 @@ impl Request<'_> {
         ensures refused { IfErr result (SubjectFaultStands self.now.definition.now declared.now) }
     {
         let subject = read_subject(alloc, self.definition, declared)?;
-        or_out_of_memory(self.draw_subject(alloc, &subject))
+        Ok(self.draw_subject(alloc, &subject)?)
     }
 
     /// Draws what the two texts read as.

@@ -1,8 +1,7 @@
 //! What cutting a part off a call's text may answer.
 ghost use Rattle.std.specs.Prelude.{◌≡◌};
 
-use asl_tree::OutOfMemory;
-use std::alloc::{AllocError, AllocFailed};
+use asl_tree::WantOfMemory;
 
 /// What is wrong with a call that is written as one.
 #[derive(Clone, Copy, Drop)]
@@ -25,32 +24,12 @@ pub(crate) enum CutRefusal {
     OutOfMemory,
 }
 
-impl From<AllocError> for CutRefusal {
+impl<E: WantOfMemory + Drop> From<E> for CutRefusal {
     ghost use Rattle.asl_intrinsic.specs.declared.cutting.CutRefusal.{CutRefusal};
 
     ghost from_gives = { λ _ refusal. refusal ≡ CutRefusal.OutOfMemory };
 
-    fn from(_error: AllocError) -> CutRefusal {
-        CutRefusal::OutOfMemory
-    }
-}
-
-impl<T: Drop> From<AllocFailed<T>> for CutRefusal {
-    ghost use Rattle.asl_intrinsic.specs.declared.cutting.CutRefusal.{CutRefusal};
-
-    ghost from_gives = { λ _ refusal. refusal ≡ CutRefusal.OutOfMemory };
-
-    fn from(_error: AllocFailed<T>) -> CutRefusal {
-        CutRefusal::OutOfMemory
-    }
-}
-
-impl From<OutOfMemory> for CutRefusal {
-    ghost use Rattle.asl_intrinsic.specs.declared.cutting.CutRefusal.{CutRefusal};
-
-    ghost from_gives = { λ _ refusal. refusal ≡ CutRefusal.OutOfMemory };
-
-    fn from(_error: OutOfMemory) -> CutRefusal {
+    fn from(_want: E) -> CutRefusal {
         CutRefusal::OutOfMemory
     }
 }

@@ -6,8 +6,7 @@
 ghost use Rattle.std.specs.Prelude.{◌≡◌};
 
 use crate::cutting::{CutRefusal, Fault};
-use asl_tree::{OutOfMemory, Tree};
-use std::alloc::{AllocError, AllocFailed};
+use asl_tree::{Tree, WantOfMemory};
 
 mod call;
 mod cutting;
@@ -83,32 +82,12 @@ pub enum EvalRefusal {
     OutOfMemory,
 }
 
-impl From<AllocError> for EvalRefusal {
+impl<E: WantOfMemory + Drop> From<E> for EvalRefusal {
     ghost use Rattle.asl_intrinsic.specs.declared.EvalRefusal.{EvalRefusal};
 
     ghost from_gives = { λ _ refusal. refusal ≡ EvalRefusal.OutOfMemory };
 
-    fn from(_error: AllocError) -> EvalRefusal {
-        EvalRefusal::OutOfMemory
-    }
-}
-
-impl<T: Drop> From<AllocFailed<T>> for EvalRefusal {
-    ghost use Rattle.asl_intrinsic.specs.declared.EvalRefusal.{EvalRefusal};
-
-    ghost from_gives = { λ _ refusal. refusal ≡ EvalRefusal.OutOfMemory };
-
-    fn from(_error: AllocFailed<T>) -> EvalRefusal {
-        EvalRefusal::OutOfMemory
-    }
-}
-
-impl From<OutOfMemory> for EvalRefusal {
-    ghost use Rattle.asl_intrinsic.specs.declared.EvalRefusal.{EvalRefusal};
-
-    ghost from_gives = { λ _ refusal. refusal ≡ EvalRefusal.OutOfMemory };
-
-    fn from(_error: OutOfMemory) -> EvalRefusal {
+    fn from(_want: E) -> EvalRefusal {
         EvalRefusal::OutOfMemory
     }
 }

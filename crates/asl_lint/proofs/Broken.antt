@@ -1,6 +1,5 @@
 -- What the rules that a certificate breaks come to.
 use Rattle.std.proofs.Common.{◌≡◌, ◌≢◌, ℕ, List, [], ◌∷◌, map, Some, refl, sym, ap, ◌∙◌, subst, arith}
-use Rattle.std.specs.List.{Contains}
 use Rattle.asl_model.specs.Certificate.{Certificate, Declared}
 use Rattle.asl_model.specs.Finding.{Finding}
 use Rattle.asl_model.specs.Machine.{Scope}
@@ -8,7 +7,7 @@ use Rattle.asl_model.specs.Numbering.{Table, table_of}
 use Rattle.asl_model.specs.Verdict.{IsRight, Rejected}
 use Rattle.asl_check.specs.Told.{AreFirst, first_of, listed}
 use Rattle.asl_infer.specs.Lenient.{IsInferredLeniently, NeverSettlesLeniently}
-use Rattle.asl_lint.specs.Tells.{AreBroken, TellsInstead, TellsOfCertificate, leniently, rejected, unbroken, unsettled_leniently}
+use Rattle.asl_lint.specs.Tells.{TellsInstead, TellsOfCertificate, leniently, rejected, unbroken, unsettled_leniently}
 use Rattle.asl_problems.specs.Told.{Told, of_finding, told_by}
 use Rattle.asl_problems.specs.declared.problems.Problem.{Problem}
 

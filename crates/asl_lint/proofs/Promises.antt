@@ -1,5 +1,5 @@
 -- What the diagnostics of texts promise, by the errors among what they tell.
-use Rattle.std.proofs.Common.{◌≡◌, ◌≢◌, ◌↔◌, ℕ, List, [], Option, Some, None, Bool, true, false, map, refl, sym, ap, ◌∙◌}
+use Rattle.std.proofs.Common.{◌≡◌, ◌≢◌, ◌↔◌, ℕ, List, [], Option, Some, None, true, false, sym, ◌∙◌}
 use Rattle.std.specs.List.{list_any}
 use Rattle.asl_model.specs.Names.{Bytes}
 use Rattle.asl_model.specs.Verdict.{Accepted}

@@ -3,8 +3,8 @@
 ghost use Rattle.std.specs.Prelude.{◌≡◌, IfSome, Some, None, option_map};
 ghost use Rattle.asl_machine.specs.View.{def_fault_view};
 
-use asl_tree::OutOfMemory;
-use std::alloc::{AllocFailed, Global};
+use asl_tree::WantOfMemory;
+use std::alloc::Global;
 
 /// What is wrong with a definition (States Language, "Structure of a State Machine", "Top-level fields", "State Types").
 #[derive(Clone, Copy, Debug)]
@@ -80,22 +80,12 @@ impl DefFault {
     }
 }
 
-impl From<OutOfMemory> for DefFault {
+impl<E: WantOfMemory + Drop> From<E> for DefFault {
     ghost use Rattle.asl_machine.specs.declared.refusals.DefFault.{DefFault};
 
     ghost from_gives = { λ _ fault. fault ≡ DefFault.OutOfMemory };
 
-    fn from(_error: OutOfMemory) -> DefFault {
-        DefFault::OutOfMemory
-    }
-}
-
-impl<T: Drop> From<AllocFailed<T>> for DefFault {
-    ghost use Rattle.asl_machine.specs.declared.refusals.DefFault.{DefFault};
-
-    ghost from_gives = { λ _ fault. fault ≡ DefFault.OutOfMemory };
-
-    fn from(_error: AllocFailed<T>) -> DefFault {
+    fn from(_want: E) -> DefFault {
         DefFault::OutOfMemory
     }
 }

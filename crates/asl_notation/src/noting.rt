@@ -36,7 +36,6 @@ pub fn note(
 }
 
 /// Whether some tree has the shape of that number; not where there is none.
-#[tactic(auto, using(asl_numbered::proofs::Tables::told_inhabited))]
 fn is_inhabited(shapes: &Shapes, number: usize) -> bool
     ensures { result ≡ shape.inhabited (shape_at shapes.now number) }
 {

@@ -5,7 +5,7 @@ use Rattle.std.proofs.lemmas.List.{length-append}
 use Rattle.std.specs.List.{list_any, list_all}
 use Rattle.std.specs.Prelude.{IfSome}
 use Rattle.asl_model.specs.Shape as model
-use Rattle.asl_model.specs.Shape.{Shape, Any, OfKinds, Simple, Arrays, WithoutArrays, ArraysOf, Objects, WithoutObjects, ObjectsOf, Never, BooleanShape, IntegerShape, NullShape, StringShape, inhabited, has_several, are_several, type_names, name_if, has_arrays, has_objects, no_simple}
+use Rattle.asl_model.specs.Shape.{Shape, Any, OfKinds, Simple, Arrays, WithoutArrays, ArraysOf, Objects, WithoutObjects, ObjectsOf, Never, BooleanShape, IntegerShape, NullShape, StringShape, inhabited, has_several, are_several, type_names, name_if, has_arrays, has_objects}
 use Rattle.asl_model.specs.ShapeOrder.{takes_all, takes_all_arrays, takes_all_objects}
 use Rattle.asl_shape.specs.View.{merged, with_kinds}
 use Rattle.asl_numbered.specs.Kinds.{IsOfKind, arrays_alone, booleans_alone, integers_alone, null_alone, objects_alone, strings_alone, AscendFrom, none_left, one_behind, AreSeveral, IsProperNode, full, full_arrays, full_objects, tidy, place_of}

@@ -12,7 +12,7 @@ use Rattle.std.specs.String.{string_cmp}
 use Rattle.indexmap.specs.IndexMap.{insert_entry}
 use Rattle.asl_model.specs.Examples.{count_mentions}
 use Rattle.asl_model.specs.Shape as model
-use Rattle.asl_model.specs.Shape.{inhabited, some_simple, some_array, some_object, all_inhabited, needed_inhabited, mentions}
+use Rattle.asl_model.specs.Shape.{inhabited, all_inhabited, needed_inhabited, mentions}
 use Rattle.asl_model.proofs.ShapeExample.{proper-ordered}
 use Rattle.asl_model.specs.ShapeOrder.{sub, simple_sub, arrays_sub, objects_sub, elements_sub, fields_sub, each_shape, others_never_there, mention_of, mention_fits, takes_all}
 use Rattle.asl_tree.specs.declared.OutOfMemory.{OutOfMemory}

@@ -8,13 +8,13 @@ use Rattle.std.specs.Map.{lookup}
 use Rattle.std.specs.Ordering.{is_eq}
 use Rattle.std.specs.Prelude.{◌↔◌, IfOk, IfSome, IsTrue, codes}
 use Rattle.asl_model.proofs.ShapeExample.{proper-ordered}
-use Rattle.asl_model.specs.Examples.{example, first_tree, fresh_name, outside, unmentioned_name, IsOutside}
+use Rattle.asl_model.specs.Examples.{fresh_name, outside, unmentioned_name, IsOutside}
 use Rattle.asl_model.specs.Examples as counting
 use Rattle.asl_model.specs.Placing.{insert_field, set_field, without_field}
 use Rattle.asl_model.specs.Shape.{Shape, Inside, IsOrdered, IsProperShape}
 use Rattle.asl_model.specs.ShapeOrder.{sub}
 use Rattle.asl_model.specs.Tree as model
-use Rattle.asl_model.specs.Tree.{Array, Object, Fields, NoFields, AndField, trees_of}
+use Rattle.asl_model.specs.Tree.{Fields, NoFields, AndField}
 use Rattle.asl_tree.proofs.Views.{Entry, entries_view-insert_entry, put}
 use Rattle.asl_tree.specs.View.{view, entries_view}
 use Rattle.asl_tree.specs.declared.OutOfMemory.{OutOfMemory}

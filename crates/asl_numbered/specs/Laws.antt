@@ -9,26 +9,26 @@ use Rattle.asl_numbered.specs.Expansion.{shape_at, numbers_in, AreBelow, AreDist
 
 -- ---- numbers below a bound
 
--- those in front
+-- where the numbers of two lists are below a bound, those of the first are
 pub below-front : (bound : ℕ) (ns ms : List ℕ) → AreBelow bound (ns ++ ms) → AreBelow bound ns
 below-front bound [] ms h = tt
 below-front bound (n ∷ ns) ms h = (h.0, below-front bound ns ms h.1)
 
--- those behind
+-- and those of the second are
 pub below-behind : (bound : ℕ) (ns ms : List ℕ) → AreBelow bound (ns ++ ms) → AreBelow bound ms
 below-behind bound [] ms h = h
 below-behind bound (n ∷ ns) ms h = below-behind bound ns ms h.1
 
--- those of two lists
+-- those of both are where those of each are
 pub below-append : (bound : ℕ) (ns ms : List ℕ) → AreBelow bound ns → AreBelow bound ms → AreBelow bound (ns ++ ms)
 below-append bound [] ms h further = further
 below-append bound (n ∷ ns) ms h further = (h.0, below-append bound ns ms h.1 further)
 
--- the first so many
+-- the first so many of such numbers are
 pub below-take : (bound k : ℕ) (ns : List ℕ) → AreBelow bound ns → AreBelow bound (take k ns)
 below-take bound k ns h = below-front bound (take k ns) (drop k ns) (subst (AreBelow bound) (sym (take-append-drop k ns)) h)
 
--- the others
+-- and so are the others
 pub below-drop : (bound k : ℕ) (ns : List ℕ) → AreBelow bound ns → AreBelow bound (drop k ns)
 below-drop bound k ns h = below-behind bound (take k ns) (drop k ns) (subst (AreBelow bound) (sym (take-append-drop k ns)) h)
 
@@ -37,11 +37,11 @@ pub below-wider : (bound wider : ℕ) (ns : List ℕ) → bound ≤ wider → Ar
 below-wider bound wider [] h below = tt
 below-wider bound wider (n ∷ ns) h below = (omega (arith, below.0), below-wider bound wider ns h below.1)
 
--- the first of some numbers, and those behind
+-- the first of such numbers is, and those behind it are
 pub below_next : (bound : ℕ) (now left : List ℕ) (n : ℕ) → now ≡ n ∷ left → AreBelow bound now → (n < bound) × AreBelow bound left
 below_next bound now left n split h = subst (AreBelow bound) split h
 
--- the same of fields
+-- so it is with the numbers of fields
 pub below_next_field : (bound : ℕ) (now left : List (String Global × NodeField)) (m : String Global × NodeField) → now ≡ m ∷ left → AreBelow bound (numbers_in now) → (m.1.shape < bound) × AreBelow bound (numbers_in left)
 below_next_field bound now left m split h = subst (λ fs. AreBelow bound (numbers_in fs)) split h
 
@@ -63,11 +63,11 @@ keeps_longer a b h = rw (h.whole, length-append a h.added) (omega arith)
 pub kept_within : (a b : List model.Shape) (n : ℕ) → Keeps a b → n < length a → n < length b
 kept_within a b n keeps within = omega (arith, keeps_longer a b keeps, within)
 
--- with the same shape
+-- it has the same shape there
 pub kept_shape : (a b : List model.Shape) (n : ℕ) → Keeps a b → n < length a → shape_at b n ≡ shape_at a n
 kept_shape a b n h within = rw h.whole (get_or_append_left a h.added model.Never n within)
 
--- so of several numbers
+-- several of its numbers are numbers of the new table, with the same shapes
 pub kept_numbers : (a b : List model.Shape) (ns : List ℕ) → Keeps a b → AreBelow (length a) ns → AreBelow (length b) ns
 kept_numbers a b ns keeps below = below-wider (length a) (length b) ns (keeps_longer a b keeps) below
 
@@ -75,7 +75,7 @@ pub kept_shapes : (a b : List model.Shape) (ns : List ℕ) → Keeps a b → Are
 kept_shapes a b [] keeps below = refl
 kept_shapes a b (n ∷ ns) keeps below = rw (kept_shape a b n keeps below.0, kept_shapes a b ns keeps below.1) refl
 
--- and of one that may be there
+-- and so is one that may be there
 pub kept_item_within : (a b : List model.Shape) (item : Option ℕ) → Keeps a b → IfSome item (λ n. n < length a) → IfSome item (λ n. n < length b)
 kept_item_within a b None keeps within = tt
 kept_item_within a b (Some n) keeps within = kept_within a b n keeps within

@@ -6,8 +6,7 @@
 
 ghost use Rattle.std.specs.Prelude.{◌≡◌};
 
-use asl_tree::OutOfMemory;
-use std::alloc::AllocFailed;
+use asl_tree::WantOfMemory;
 use std::marker::Model;
 
 mod cutting;
@@ -79,22 +78,12 @@ pub enum PathRefusal {
     OutOfMemory,
 }
 
-impl From<OutOfMemory> for PathRefusal {
+impl<E: WantOfMemory + Drop> From<E> for PathRefusal {
     ghost use Rattle.asl_path.specs.declared.PathRefusal.{PathRefusal};
 
     ghost from_gives = { λ _ refusal. refusal ≡ PathRefusal.OutOfMemory };
 
-    fn from(_error: OutOfMemory) -> PathRefusal {
-        PathRefusal::OutOfMemory
-    }
-}
-
-impl<T: Drop> From<AllocFailed<T>> for PathRefusal {
-    ghost use Rattle.asl_path.specs.declared.PathRefusal.{PathRefusal};
-
-    ghost from_gives = { λ _ refusal. refusal ≡ PathRefusal.OutOfMemory };
-
-    fn from(_error: AllocFailed<T>) -> PathRefusal {
+    fn from(_want: E) -> PathRefusal {
         PathRefusal::OutOfMemory
     }
 }

@@ -9,8 +9,8 @@ ghost use Rattle.asl_path.specs.declared.placing.PlaceRefusal.TheVariants.{Canno
 ghost use Rattle.asl_tree.specs.View.{view, elements_view, entries_view};
 
 use crate::{RefPath, Segment};
-use asl_tree::Tree;
-use std::alloc::{AllocError, AllocFailed, Global};
+use asl_tree::{Tree, WantOfMemory};
+use std::alloc::Global;
 use std::collections::BTreeMap;
 
 /// Why a tree can't be placed.
@@ -23,22 +23,12 @@ pub enum PlaceRefusal {
     OutOfMemory,
 }
 
-impl From<AllocError> for PlaceRefusal {
+impl<E: WantOfMemory + Drop> From<E> for PlaceRefusal {
     ghost use Rattle.asl_path.specs.declared.placing.PlaceRefusal.{PlaceRefusal};
 
     ghost from_gives = { λ _ refusal. refusal ≡ PlaceRefusal.OutOfMemory };
 
-    fn from(_error: AllocError) -> PlaceRefusal {
-        PlaceRefusal::OutOfMemory
-    }
-}
-
-impl<T: Drop> From<AllocFailed<T>> for PlaceRefusal {
-    ghost use Rattle.asl_path.specs.declared.placing.PlaceRefusal.{PlaceRefusal};
-
-    ghost from_gives = { λ _ refusal. refusal ≡ PlaceRefusal.OutOfMemory };
-
-    fn from(_error: AllocFailed<T>) -> PlaceRefusal {
+    fn from(_want: E) -> PlaceRefusal {
         PlaceRefusal::OutOfMemory
     }
 }

@@ -1,5 +1,5 @@
 -- What is wrong with a certificate, by the parts in which it is read.
-use Rattle.std.proofs.Common.{◌≡◌, ◌<◌, List, length, refl, arith, Option, [], ◌∷◌, ◌++◌, codes, pos, Some, None, unwrap_or, Bool, true, ℕ, Bor, Vec, String, Global, ⊎_elim, sym, ap, ap₂, subst, ◌∙◌}
+use Rattle.std.proofs.Common.{◌≡◌, ◌<◌, List, length, refl, Option, [], ◌∷◌, ◌++◌, codes, pos, Some, None, unwrap_or, Bool, true, ℕ, Bor, Vec, String, Global, ⊎_elim, sym, ap, ap₂, subst, ◌∙◌}
 use Rattle.std.specs.List.{Contains}
 use Rattle.std.proofs.lemmas.List.Elements.{Contains-append_left, Contains-append_right, Contains-append_cases}
 use Rattle.serde_json.specs.Data as json

@@ -1,8 +1,7 @@
 -- Numbers of a table that has grown stand for the same shapes.
-use Rattle.std.proofs.Common.{◌≡◌, ◌<◌, ◌≤◌, ℕ, List, [], ◌∷◌, length, map, Option, Some, None, option_map, String, Global, refl, ap, ◌∙◌, subst, sym, arith}
-use Rattle.std.specs.Prelude.{IfSome}
+use Rattle.std.proofs.Common.{◌≡◌, ◌<◌, ◌≤◌, ℕ, List, [], ◌∷◌, length, String, Global, refl, ◌∙◌, subst, sym}
 use Rattle.std.specs.List.{AllByRecursion}
-use Rattle.asl_numbered.specs.Expansion.{shape_at, AreBelow, Keeps}
+use Rattle.asl_numbered.specs.Expansion.{Keeps}
 use Rattle.asl_numbered.specs.Laws.{kept_item, kept_item_within, kept_numbers, kept_shape, kept_shapes, kept_within}
 use Rattle.asl_model.specs.Shape.{Shape}
 use Rattle.asl_records.specs.Numbered.{numbers_view, numbered_entries, numbered_view, AreNumbersBelow, AreEntriesBelow, AreWithin}

@@ -1,7 +1,7 @@
 -- What is left to do when shapes are listed, as steps over shapes: what they list, and that they end.
 use Rattle.std.proofs.Common.{◌≡◌, ◌<◌, ◌+◌, ℕ, suc, List, [], ◌∷◌, ◌++◌, map, Bool, true, false, if◌then◌else◌, Option, Some, None, option_map, String, Global, refl, sym, ap, ◌∙◌, subst, append_assoc, arith}
-use Rattle.std.proofs.lemmas.List.{append-nil, map-append}
-use Rattle.asl_model.specs.Shape.{Shape, Any, OfKinds, Arrays, WithoutArrays, ArraysOf, Objects, WithoutObjects, ObjectsOf, Shapes, NoShapes, AndShape, FieldShapes, NoFieldShapes, AndFieldShape, IsProperShape, AreProperArrays, AreProperObjects}
+use Rattle.std.proofs.lemmas.List.{map-append}
+use Rattle.asl_model.specs.Shape.{Shape, Any, OfKinds, Arrays, WithoutArrays, ArraysOf, Objects, WithoutObjects, ObjectsOf, Shapes, NoShapes, AndShape, FieldShapes, NoFieldShapes, AndFieldShape, IsProperShape}
 use Rattle.asl_model.specs.WrittenNumbered.{same_shape, place_of, with_last, is_listed, with_last_if_listed, list_after, list_after_arrays, list_after_objects, list_after_places, list_after_fields}
 use Rattle.asl_model.proofs.SameShapes.{same_are}
 use Rattle.asl_model.proofs.Listing.{IsThere, PlacesAreThere, FieldsAreThere, ObjectsAreThere, KindsAreThere, PartsAreThere, AreBehind, parts_more, arrays_later, walked_arrays, walked_objects}

@@ -3,8 +3,8 @@
 ghost use Rattle.std.specs.Prelude.{◌≡◌, ◌∷◌, [], Some, IfSome};
 
 use asl_shape::ShapeRefusal;
-use asl_tree::OutOfMemory;
-use std::alloc::{AllocError, AllocFailed, Global};
+use asl_tree::WantOfMemory;
+use std::alloc::Global;
 
 /// What is wrong with declared shapes or a certificate.
 #[derive(Debug, Drop)]
@@ -89,32 +89,12 @@ impl ReadFault {
     }
 }
 
-impl From<OutOfMemory> for ReadFault {
+impl<E: WantOfMemory + Drop> From<E> for ReadFault {
     ghost use Rattle.asl_records.specs.declared.refusals.ReadFault.{ReadFault};
 
     ghost from_gives = { λ _ fault. fault ≡ ReadFault.OutOfMemory };
 
-    fn from(_error: OutOfMemory) -> ReadFault {
-        ReadFault::OutOfMemory
-    }
-}
-
-impl From<AllocError> for ReadFault {
-    ghost use Rattle.asl_records.specs.declared.refusals.ReadFault.{ReadFault};
-
-    ghost from_gives = { λ _ fault. fault ≡ ReadFault.OutOfMemory };
-
-    fn from(_error: AllocError) -> ReadFault {
-        ReadFault::OutOfMemory
-    }
-}
-
-impl<T: Drop> From<AllocFailed<T>> for ReadFault {
-    ghost use Rattle.asl_records.specs.declared.refusals.ReadFault.{ReadFault};
-
-    ghost from_gives = { λ _ fault. fault ≡ ReadFault.OutOfMemory };
-
-    fn from(_error: AllocFailed<T>) -> ReadFault {
+    fn from(_want: E) -> ReadFault {
         ReadFault::OutOfMemory
     }
 }

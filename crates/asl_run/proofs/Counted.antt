@@ -2,7 +2,6 @@
 use Rattle.std.proofs.Common.{◌≡◌, ◌<◌, ◌≤◌, sym, ap, ◌∙◌, subst, arith, ℕ, suc, ◌+◌, List, length, drop, slice_get, Option, Some, None, option_map, is_some}
 use mir.Val.{bool_byte}
 use Rattle.asl_model.specs.Run as model
-use Rattle.asl_model.specs.Run.{joining}
 use Rattle.asl_tree.specs.View.{view}
 use Rattle.asl_run.specs.Counting.{open_among, open_below_count, open_count}
 use Rattle.asl_run.specs.Enabling.{own_place, wanted_by}

@@ -3,7 +3,6 @@ use Rattle.std.proofs.Common.{◌≡◌, refl, sym, ap, ◌∙◌, subst, arith,
 use Rattle.std.specs.Option.{unwrap_or}
 use Rattle.asl_states.specs.declared.machine.Machine.{Machine}
 use Rattle.asl_model.specs.Run as model
-use Rattle.asl_model.specs.Run.{activity_at, set_child}
 use Rattle.asl_model.specs.Tree.{Null}
 use Rattle.asl_model.proofs.RunOptions.{some_inj, none_some}
 use Rattle.asl_tree.specs.View.{view}

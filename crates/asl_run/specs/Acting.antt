@@ -79,10 +79,14 @@ pub record MayCome (here : Here) (work : Work) : Type 0 where
 abbrev pub told_at : List ℕ → model.Entry → List ℕ × model.Entry
 told_at place entry = (place, entry)
 
+-- an entry with the place of that execution
+abbrev pub told_here : Here → model.Entry → List ℕ × model.Entry
+told_here here = told_at here.happening.at.now
+
 -- A plan is that of a step: its entries are the step's, at the place; its change leaves what the step leaves; a count
 -- that is to rise can.
 pub record Plans (here : Here) (plan : Plan) (step : model.Step) : Type 0 where
-  pub told : map entry_view plan.entries.items ≡ map (told_at here.happening.at.now) step.entries
+  pub told : map entry_view plan.entries.items ≡ map (told_here here) step.entries
   pub left : IsAt here → changed (names_at here) here.visit.now plan.change ≡ step.after
   pub rises : (i : ℕ) → plan.change ≡ Retry i → CanRise here.visit.now.counts.items i
 

@@ -71,6 +71,7 @@ fn visit_of(node: &Node) -> Option<&Visit>
 }
 
 /// What is to be done where that execution stands.
+#[tactic(auto, using(crate::proofs::Acted::over_any))]
 fn act<'m>(
     here: &Here<'_, 'm>,
     node: &Node,

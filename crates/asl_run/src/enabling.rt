@@ -15,6 +15,7 @@ use asl_tree::OutOfMemory;
 use std::alloc::Global;
 
 /// The kind of event that the node itself wants, over these children, if any.
+#[tactic(auto, using(crate::proofs::Joinable::joinable_wants, crate::proofs::Joinable::waiting_wants,))]
 pub(crate) fn wanted_by(node: &Node, children: &[Node]) -> Option<Want>
     ensures { (names : List (List ℕ)) (below : List Activity) → AreHeads names children.now below
         → option_map want_view result
@@ -114,6 +115,7 @@ fn add_places_below(
 }
 
 /// Adds the place of the node with these children, where it wants an event.
+#[tactic(auto, using(crate::proofs::Adding::own_none, crate::proofs::Adding::own_some, crate::proofs::Adding::one_found,))]
 fn add_own_place(
     alloc: Global,
     node: &Node,

@@ -50,6 +50,7 @@ fn carry_out<'m>(here: &Here<'_, 'm>, work: Work) -> Result<Plan<'m>, OutOfMemor
 }
 
 /// Its task is asked with a payload.
+#[tactic(auto, using(crate::proofs::Planned::asked_so))]
 fn ask<'m>(here: &Here<'_, 'm>, payload: Data) -> Result<Plan<'m>, OutOfMemory>
     ensures { IfOk result (λ plan. Plans here.now plan
         (by_state model.by_work here.now (flow.Asks (data_view payload.entry)))) }
@@ -59,6 +60,7 @@ fn ask<'m>(here: &Here<'_, 'm>, payload: Data) -> Result<Plan<'m>, OutOfMemory>
 }
 
 /// It waits for the answer to its payload.
+#[tactic(auto, using(crate::proofs::Planned::waits_so))]
 fn wait_for<'m>(here: &Here<'_, 'm>, payload: Datum) -> Result<Plan<'m>, OutOfMemory>
     ensures { IfOk result (λ plan.
         Plans here.now plan (by_state model.by_work here.now (flow.Asks (view payload.value)))) }
@@ -68,6 +70,7 @@ fn wait_for<'m>(here: &Here<'_, 'm>, payload: Datum) -> Result<Plan<'m>, OutOfMe
 }
 
 /// It starts these children.
+#[tactic(auto, using(crate::proofs::Planned::split_so))]
 fn split<'m>(here: &Here<'_, 'm>, children: Vec<Visit>) -> Plan<'m>
     ensures { (IsAt here.now → StartIn (names_at here.now)
         (machine.child_scope (kind_view here.now.state.now.kind)) children.items)

@@ -48,6 +48,7 @@ pub(crate) fn in_trouble<'m>(
 }
 
 /// The retrier of that number retries.
+#[tactic(auto, using(crate::proofs::Planned::retried_so))]
 fn retry<'m>(here: &Here<'_, 'm>, retrier: usize) -> Result<Plan<'m>, OutOfMemory>
     requires { CanRise here.now.visit.now.counts.items retrier }
     ensures { IfOk result (λ plan. (error cause : List ℕ)
@@ -57,6 +58,7 @@ fn retry<'m>(here: &Here<'_, 'm>, retrier: usize) -> Result<Plan<'m>, OutOfMemor
 }
 
 /// The catcher of that number hands this input to that state.
+#[tactic(auto, using(crate::proofs::Planned::handed_on))]
 fn hand_on<'m>(
     here: &Here<'_, 'm>,
     catcher: usize,

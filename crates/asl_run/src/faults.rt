@@ -2,8 +2,7 @@
 
 ghost use Rattle.std.specs.Prelude.{◌≡◌, codes};
 
-use asl_tree::OutOfMemory;
-use std::alloc::{AllocError, AllocFailed};
+use asl_tree::WantOfMemory;
 
 /// The six errors of data flow. `Path.NamesNothing` and `Path.WrongKind` are the profile's own.
 #[derive(Clone, Copy, Debug, Drop)]
@@ -50,12 +49,12 @@ impl DataFlowError {
     }
 }
 
-impl From<OutOfMemory> for Stop {
+impl<E: WantOfMemory + Drop> From<E> for Stop {
     ghost use Rattle.asl_run.specs.declared.faults.Stop.{Stop};
 
     ghost from_gives = { λ _ stop. stop ≡ Stop.OutOfMemory };
 
-    fn from(_error: OutOfMemory) -> Stop {
+    fn from(_want: E) -> Stop {
         Stop::OutOfMemory
     }
 }
@@ -67,25 +66,5 @@ impl From<Fault> for Stop {
 
     fn from(fault: Fault) -> Stop {
         Stop::Fault(fault)
-    }
-}
-
-impl From<AllocError> for Stop {
-    ghost use Rattle.asl_run.specs.declared.faults.Stop.{Stop};
-
-    ghost from_gives = { λ _ stop. stop ≡ Stop.OutOfMemory };
-
-    fn from(_error: AllocError) -> Stop {
-        Stop::OutOfMemory
-    }
-}
-
-impl<T: Drop> From<AllocFailed<T>> for Stop {
-    ghost use Rattle.asl_run.specs.declared.faults.Stop.{Stop};
-
-    ghost from_gives = { λ _ stop. stop ≡ Stop.OutOfMemory };
-
-    fn from(_error: AllocFailed<T>) -> Stop {
-        Stop::OutOfMemory
     }
 }

@@ -36,6 +36,7 @@ enum Far<'c> {
 }
 
 /// The state's children are joined; none where they aren't far enough.
+#[tactic(auto, using(crate::proofs::Joined::joined_all, crate::proofs::Joined::joined_failed, crate::proofs::Joined::not_joined,))]
 pub(crate) fn join<'m>(
     here: &Here<'_, 'm>,
     children: &[Node],
@@ -136,6 +137,7 @@ fn failure_of(node: &Node) -> Option<(&str, &str)>
 }
 
 /// The outputs of the children that are done, in order.
+#[tactic(auto, using(crate::proofs::Joined::all_out, crate::proofs::Joined::one_out))]
 fn outputs_of(alloc: Global, children: &[Node]) -> Result<Vec<Tree>, OutOfMemory>
     ensures { IfOk result (λ v. (names : List (List ℕ)) (below : List model.Activity)
         → AreHeads names children.now below → map view v.items ≡ outputs_among below) }
@@ -148,6 +150,7 @@ fn outputs_of(alloc: Global, children: &[Node]) -> Result<Vec<Tree>, OutOfMemory
 }
 
 /// Adds the output of a scope that is done there to those of others.
+#[tactic(auto, using(crate::proofs::Joined::none_added, crate::proofs::Joined::one_added))]
 fn add_output(alloc: Global, node: &Node, outputs: &mut Vec<Tree>) -> Result<(), OutOfMemory>
     ensures { IfOk result (λ _. (names : List (List ℕ)) (below : model.Activities)
         → map view outputs.new.items ≡ map view outputs.old.items

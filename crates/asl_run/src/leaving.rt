@@ -38,6 +38,7 @@ fn leave<'m>(
 }
 
 /// So for that next state.
+#[tactic(auto, using(crate::proofs::Planned::left_on))]
 fn leave_for<'m>(here: &Here<'_, 'm>, next: &Target, output: Datum) -> Result<Plan<'m>, OutOfMemory>
     ensures { IfOk result (λ plan. MayFollow here.now next.now → Plans here.now plan
         (model.leaves_for here.now.name.now (Some (target_name next.now)) (view output.value))) }
@@ -48,6 +49,7 @@ fn leave_for<'m>(here: &Here<'_, 'm>, next: &Target, output: Datum) -> Result<Pl
 }
 
 /// So for the end of its scope.
+#[tactic(auto, using(crate::proofs::Planned::left_last))]
 fn leave_scope<'m>(here: &Here<'_, 'm>, output: Datum) -> Result<Plan<'m>, OutOfMemory>
     ensures { IfOk result (λ plan.
         Plans here.now plan (model.leaves_for here.now.name.now None (view output.value))) }
@@ -82,6 +84,7 @@ pub(crate) fn leave_with<'m>(
 }
 
 /// The state has a result.
+#[tactic(auto, using(crate::proofs::Planned::finished_so))]
 pub(crate) fn finish<'m>(here: &Here<'_, 'm>, value: Data) -> Result<Plan<'m>, OutOfMemory>
     ensures { IfOk result (λ plan.
         Plans here.now plan (by_settings model.finishes here.now (data_view value.entry))) }

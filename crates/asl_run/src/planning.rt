@@ -3,7 +3,7 @@
 ghost use Rattle.std.specs.Prelude.{◌≡◌, ◌∷◌, [], IfOk, IsOkAnd, map, string_bytes};
 ghost use Rattle.asl_states.specs.Machine.{target_name};
 ghost use Rattle.asl_model.specs.Run as model;
-ghost use Rattle.asl_run.specs.Acting.{Plans, told_at};
+ghost use Rattle.asl_run.specs.Acting.{Plans, told_here};
 ghost use Rattle.asl_run.specs.Activities.{ended_view};
 ghost use Rattle.asl_run.specs.Entries.{entry_view, outcome_view};
 ghost use Rattle.asl_run.specs.Faults.{fault_view};
@@ -92,7 +92,7 @@ impl<'m> Here<'_, 'm> {
 
     /// The entry that the state is entered with its raw input.
     pub(crate) fn entered(&self) -> Result<Entry<'m>, OutOfMemory>
-        ensures { IfOk result (λ entry. entry_view entry ≡ told_at self.now.happening.at.now
+        ensures { IfOk result (λ entry. entry_view entry ≡ told_here self.now
             (model.Entered self.now.name.now (view self.now.visit.now.raw.value))) }
     {
         Ok(Entry::Enter {
@@ -105,7 +105,7 @@ impl<'m> Here<'_, 'm> {
     /// The entry that its task is asked with a payload.
     pub(crate) fn asked(&self, payload: &Datum) -> Result<Entry<'m>, OutOfMemory>
         ensures { IfOk result (λ entry. entry_view entry
-            ≡ told_at self.now.happening.at.now (model.Asked self.now.name.now (view payload.now.value))) }
+            ≡ told_here self.now (model.Asked self.now.name.now (view payload.now.value))) }
     {
         Ok(Entry::Task {
             at: self.place()?,
@@ -117,7 +117,7 @@ impl<'m> Here<'_, 'm> {
     /// The entry that it is left with an output.
     pub(crate) fn left(&self, output: &Datum) -> Result<Entry<'m>, OutOfMemory>
         ensures { IfOk result (λ entry. entry_view entry
-            ≡ told_at self.now.happening.at.now (model.Left self.now.name.now (view output.now.value))) }
+            ≡ told_here self.now (model.Left self.now.name.now (view output.now.value))) }
     {
         Ok(Entry::Leave {
             at: self.place()?,
@@ -129,7 +129,7 @@ impl<'m> Here<'_, 'm> {
     /// The entry that it raises a data-flow fault.
     pub(crate) fn raised(&self, fault: Fault) -> Result<Entry<'m>, OutOfMemory>
         ensures { IfOk result (λ entry. entry_view entry
-            ≡ told_at self.now.happening.at.now (model.Raised self.now.name.now (fault_view fault))) }
+            ≡ told_here self.now (model.Raised self.now.name.now (fault_view fault))) }
     {
         Ok(Entry::Raise {
             at: self.place()?,
@@ -141,7 +141,7 @@ impl<'m> Here<'_, 'm> {
     /// The entry that its task has failed.
     pub(crate) fn task_failed(&self, error: &str, cause: &str) -> Result<Entry<'m>, OutOfMemory>
         ensures { IfOk result (λ entry. entry_view entry
-            ≡ told_at self.now.happening.at.now (model.TaskFailed self.now.name.now error.now cause.now)) }
+            ≡ told_here self.now (model.TaskFailed self.now.name.now error.now cause.now)) }
     {
         Ok(Entry::TaskFailed {
             at: self.place()?,
@@ -158,7 +158,7 @@ impl<'m> Here<'_, 'm> {
         error: &str,
         cause: &str,
     ) -> Result<Entry<'m>, OutOfMemory>
-        ensures { IfOk result (λ entry. entry_view entry ≡ told_at self.now.happening.at.now
+        ensures { IfOk result (λ entry. entry_view entry ≡ told_here self.now
             (model.BranchFailed self.now.name.now child error.now cause.now)) }
     {
         Ok(Entry::BranchFailed {
@@ -173,7 +173,7 @@ impl<'m> Here<'_, 'm> {
     /// The entry that its retrier of that number retries.
     pub(crate) fn retried(&self, retrier: usize) -> Result<Entry<'m>, OutOfMemory>
         ensures { IfOk result (λ entry.
-            entry_view entry ≡ told_at self.now.happening.at.now (model.Retried self.now.name.now retrier)) }
+            entry_view entry ≡ told_here self.now (model.Retried self.now.name.now retrier)) }
     {
         Ok(Entry::Retried {
             at: self.place()?,
@@ -184,7 +184,7 @@ impl<'m> Here<'_, 'm> {
 
     /// The entry that its catcher of that number hands on to that state.
     pub(crate) fn caught(&self, catcher: usize, next: &'m Target) -> Result<Entry<'m>, OutOfMemory>
-        ensures { IfOk result (λ entry. entry_view entry ≡ told_at self.now.happening.at.now
+        ensures { IfOk result (λ entry. entry_view entry ≡ told_here self.now
             (model.Caught self.now.name.now catcher (target_name next.now))) }
     {
         Ok(Entry::Caught {
@@ -198,7 +198,7 @@ impl<'m> Here<'_, 'm> {
     /// The entries that it is left with an output and that its scope ends with that.
     pub(crate) fn left_and_ended(&self, output: &Datum) -> Result<Vec<Entry<'m>>, OutOfMemory>
         ensures { IfOk result (λ entries. map entry_view entries.items
-            ≡ map (told_at self.now.happening.at.now) (model.Left self.now.name.now (view output.now.value)
+            ≡ map (told_here self.now) (model.Left self.now.name.now (view output.now.value)
             ∷ model.Ended (model.Output (view output.now.value)) ∷ [])) }
     {
         let entries = with_first(self.ended_with(output), Vec::new(self.happening.alloc))?;
@@ -208,7 +208,7 @@ impl<'m> Here<'_, 'm> {
     /// The entry that its scope ends with an output.
     fn ended_with(&self, output: &Datum) -> Result<Entry<'m>, OutOfMemory>
         ensures { IfOk result (λ entry. entry_view entry
-            ≡ told_at self.now.happening.at.now (model.Ended (model.Output (view output.now.value)))) }
+            ≡ told_here self.now (model.Ended (model.Output (view output.now.value)))) }
     {
         Ok(Entry::Ended {
             at: self.place()?,
@@ -219,7 +219,7 @@ impl<'m> Here<'_, 'm> {
     /// The entry that its scope ends with an error and a cause.
     fn ended_failing(&self, error: &str, cause: &str) -> Result<Entry<'m>, OutOfMemory>
         ensures { IfOk result (λ entry. entry_view entry
-            ≡ told_at self.now.happening.at.now (model.Ended (model.FailedWith error.now cause.now))) }
+            ≡ told_here self.now (model.Ended (model.FailedWith error.now cause.now))) }
     {
         Ok(Entry::Ended {
             at: self.place()?,
@@ -239,6 +239,7 @@ impl<'m> Here<'_, 'm> {
     }
 
     /// The scope ends with an error and a cause.
+    #[tactic(auto, using(crate::proofs::Planned::ended_so))]
     pub(crate) fn ends_failing(&self, error: &str, cause: &str) -> Result<Plan<'m>, OutOfMemory>
         ensures { IfOk result (λ plan. Plans self.now plan
             (model.ends_failing error.now cause.now)) }

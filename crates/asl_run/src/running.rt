@@ -95,6 +95,7 @@ impl<'m> Run<'m> {
     }
 
     /// Takes the event. A refusal leaves the run as it was.
+    #[tactic(auto, using(crate::proofs::StepsRun::so_by_event))]
     fn take(&mut self, event: &Event) -> Result<Vec<Entry<'m>>, StepRefusal>
         ensures kept { (m : Scope) → IsRunOf m self.old → IsRunOf m self.new }
         ensures steps { Steps self.old.machine.now (event_view event.now).place
@@ -108,6 +109,7 @@ impl<'m> Run<'m> {
     }
 
     /// The step at that place, by an answer or else a move.
+    #[tactic(auto, using(crate::proofs::StepsRun::still_stands))]
     fn happens(
         &mut self,
         place: &[usize],
@@ -129,6 +131,7 @@ impl<'m> Run<'m> {
 
     /// The places where an event is enabled, each with its kind, in lexicographic order, a place before those below
     /// it. A run that hasn't ended has one.
+    #[tactic(auto, using(crate::proofs::SomeEnabled::some_enabled, crate::proofs::SomeEnabled::some_found, crate::proofs::Started::all_enabled,))]
     pub fn enabled(&self) -> Result<Vec<(Place, Want)>, OutOfMemory>
         ensures goes_on { IfOk result (λ found. (m : Scope) → IsRunOf m self.now
             → model.outcome_of (run_view self.now) ≡ None → found.items ≢ []) }
@@ -139,6 +142,7 @@ impl<'m> Run<'m> {
     }
 
     /// The places where an event is wanted, each with its kind, a place before those below it.
+    #[tactic(auto, using(crate::proofs::Started::all_open))]
     pub(crate) fn open_places(&self) -> Result<Vec<(Place, Want)>, OutOfMemory>
         ensures { IfOk result (λ found. (names : List (List ℕ))
             → map found_view found.items ≡ open_in (shown_at names self.now.standing 0)) }

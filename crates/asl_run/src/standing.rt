@@ -176,6 +176,7 @@ impl Standing {
 }
 
 /// The number of the node whose child stands at that place; none for the machine's own place.
+#[tactic(auto, using(crate::proofs::Parents::parent_found))]
 fn parent_of(nodes: &Nodes, place: &[usize]) -> Option<NodeNumber>
     ensures { (child : ℕ) → number_from nodes.now 0 place.now ≡ Some child
         → HasParent nodes.now place.now child result }

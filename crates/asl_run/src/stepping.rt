@@ -79,6 +79,7 @@ impl<'m> Happening<'_, 'm> {
     }
 
     /// Whether the node with these children wants such an event.
+    #[tactic(auto, using(crate::proofs::StepsHere::wants_move, crate::proofs::StepsHere::wants_answer, crate::proofs::StepsHere::wants_none,))]
     fn is_wanted_by(self, node: &Node, children: &[Node]) -> bool
         ensures { (names : List (List ℕ)) (below : List model.Activity)
             → AreHeads names children.now below

@@ -91,6 +91,7 @@ fn retrying(retriers: &[Retrier], counts: &[u64], error: &str) -> Option<usize>
 }
 
 /// The count of the retrier of that number; one that isn't written is 0.
+#[tactic(auto, using(crate::proofs::Counts::count_within, crate::proofs::Counts::count_past))]
 fn count_at(counts: &[u64], retrier: usize) -> u64
     ensures { result ≡ model.count_at retrier counts.now }
 {
@@ -197,6 +198,7 @@ fn error_output(alloc: Global, error: &str, cause: &str) -> Result<Tree, OutOfMe
 }
 
 /// Raises the count of the retrier of that number by one. A refusal leaves the counts as they are.
+#[tactic(auto, using(crate::proofs::Counts::count_within, crate::proofs::Counts::raised_within))]
 pub(crate) fn one_higher(counts: &mut Vec<u64>, retrier: usize) -> Result<(), OutOfMemory>
     requires { CanRise counts.old.items retrier }
     ensures raised { IfOk result

@@ -14,7 +14,6 @@ use Rattle.asl_model.specs.Shape as model
 use Rattle.asl_model.specs.ShapeSpelling.{is_type_list, are_texts, are_types, are_distinct, texts_among, shape_of, element_shapes, field_shapes, shape_faults, field_faults, element_faults}
 use Rattle.asl_model.specs.Tree as json
 use Rattle.asl_shape.specs.Spelled as trees
-use Rattle.asl_shape.specs.Spelled.{spelled}
 use Rattle.serde_json.specs.declared.value.Value.{Value}
 use Rattle.asl_shape.specs.declared.ShapeRefusal.{ShapeRefusal}
 use Rattle.asl_shape.specs.declared.shape.Shape.{Shape}

@@ -26,7 +26,7 @@ mod reading;
 mod shape;
 mod writing;
 
-use asl_tree::OutOfMemory;
+use asl_tree::WantOfMemory;
 pub use comparing::sub;
 pub use copying::copy;
 pub use equality::same;
@@ -41,7 +41,6 @@ pub use membership::has;
 pub use properness::proper;
 pub use reading::{read, read_v1, read_value, read_value_v1};
 pub use shape::{Field, Shape};
-use std::alloc::{AllocError, AllocFailed};
 pub use writing::{Written, WrittenArrays, WrittenObjects, write, write_kinds};
 
 /// Why a tree is no spelling of a shape.
@@ -60,32 +59,12 @@ pub enum ShapeRefusal {
     OutOfMemory,
 }
 
-impl From<AllocError> for ShapeRefusal {
+impl<E: WantOfMemory + Drop> From<E> for ShapeRefusal {
     ghost use Rattle.asl_shape.specs.declared.ShapeRefusal.{ShapeRefusal};
 
     ghost from_gives = { λ _ refusal. refusal ≡ ShapeRefusal.OutOfMemory };
 
-    fn from(_error: AllocError) -> ShapeRefusal {
-        ShapeRefusal::OutOfMemory
-    }
-}
-
-impl<T: Drop> From<AllocFailed<T>> for ShapeRefusal {
-    ghost use Rattle.asl_shape.specs.declared.ShapeRefusal.{ShapeRefusal};
-
-    ghost from_gives = { λ _ refusal. refusal ≡ ShapeRefusal.OutOfMemory };
-
-    fn from(_error: AllocFailed<T>) -> ShapeRefusal {
-        ShapeRefusal::OutOfMemory
-    }
-}
-
-impl From<OutOfMemory> for ShapeRefusal {
-    ghost use Rattle.asl_shape.specs.declared.ShapeRefusal.{ShapeRefusal};
-
-    ghost from_gives = { λ _ refusal. refusal ≡ ShapeRefusal.OutOfMemory };
-
-    fn from(_error: OutOfMemory) -> ShapeRefusal {
+    fn from(_want: E) -> ShapeRefusal {
         ShapeRefusal::OutOfMemory
     }
 }

@@ -1,8 +1,7 @@
 -- The shapes of a state in a table that has grown.
-use Rattle.std.proofs.Common.{◌≡◌, ◌<◌, ◌≤◌, ℕ, List, [], ◌∷◌, length, map, Option, Some, None, option_map, refl, ap, arith}
-use Rattle.std.specs.Prelude.{IfSome}
+use Rattle.std.proofs.Common.{◌≡◌, ◌<◌, ◌≤◌, List, [], ◌∷◌, length, refl}
 use Rattle.asl_model.specs.Shape.{Shape}
-use Rattle.asl_numbered.specs.Expansion.{shape_at, AreBelow, Keeps}
+use Rattle.asl_numbered.specs.Expansion.{Keeps}
 use Rattle.asl_numbered.specs.Laws.{kept_item, kept_item_within, kept_numbers, kept_shape, kept_shapes, kept_within}
 use Rattle.asl_state_edges.specs.Entry.{entry_view, IsEntryBelow}
 use Rattle.asl_state_edges.specs.declared.found.Entry.{Entry}

@@ -12,7 +12,6 @@ use Rattle.std.specs.Map.{keys_of}
 use Rattle.std.specs.Option.{option_or}
 use Rattle.std.specs.Ordering.{eq_by_cmp}
 use Rattle.std.specs.String.{string_cmp_total}
-use Rattle.asl_suites.specs.Scripts.{StateScripts}
 use Rattle.asl_suites.specs.View.{state_view}
 use Rattle.asl_suites.specs.declared.answers.StateAnswers.{StateAnswers}
 

@@ -1,7 +1,7 @@
 //! Why a suite or a mock file is refused.
 
-use asl_tree::{OutOfMemory, quoted};
-use std::alloc::{AllocError, AllocFailed, Global};
+use asl_tree::{OutOfMemory, WantOfMemory, quoted};
+use std::alloc::Global;
 
 /// Why a suite or a mock file isn't read.
 #[derive(Debug, Drop)]
@@ -71,20 +71,8 @@ pub struct Unknown {
     pub similar: Option<String>,
 }
 
-impl From<AllocError> for SuiteRefusal {
-    fn from(_error: AllocError) -> SuiteRefusal {
-        SuiteRefusal::OutOfMemory
-    }
-}
-
-impl<T: Drop> From<AllocFailed<T>> for SuiteRefusal {
-    fn from(_error: AllocFailed<T>) -> SuiteRefusal {
-        SuiteRefusal::OutOfMemory
-    }
-}
-
-impl From<OutOfMemory> for SuiteRefusal {
-    fn from(_error: OutOfMemory) -> SuiteRefusal {
+impl<E: WantOfMemory + Drop> From<E> for SuiteRefusal {
+    fn from(_want: E) -> SuiteRefusal {
         SuiteRefusal::OutOfMemory
     }
 }

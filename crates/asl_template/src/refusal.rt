@@ -1,8 +1,7 @@
 //! Why a value spells no template, and why a template has no value.
 ghost use Rattle.std.specs.Prelude.{◌≡◌};
 
-use asl_tree::OutOfMemory;
-use std::alloc::{AllocError, AllocFailed};
+use asl_tree::WantOfMemory;
 
 /// Why a value spells no template.
 #[derive(Clone, Copy, Debug, Drop)]
@@ -36,62 +35,22 @@ pub enum TemplateRefusal {
     OutOfMemory,
 }
 
-impl From<AllocError> for SpellingRefusal {
+impl<E: WantOfMemory + Drop> From<E> for SpellingRefusal {
     ghost use Rattle.asl_template.specs.declared.refusal.SpellingRefusal.{SpellingRefusal};
 
     ghost from_gives = { λ _ refusal. refusal ≡ SpellingRefusal.OutOfMemory };
 
-    fn from(_error: AllocError) -> SpellingRefusal {
+    fn from(_want: E) -> SpellingRefusal {
         SpellingRefusal::OutOfMemory
     }
 }
 
-impl<T: Drop> From<AllocFailed<T>> for SpellingRefusal {
-    ghost use Rattle.asl_template.specs.declared.refusal.SpellingRefusal.{SpellingRefusal};
-
-    ghost from_gives = { λ _ refusal. refusal ≡ SpellingRefusal.OutOfMemory };
-
-    fn from(_error: AllocFailed<T>) -> SpellingRefusal {
-        SpellingRefusal::OutOfMemory
-    }
-}
-
-impl From<OutOfMemory> for SpellingRefusal {
-    ghost use Rattle.asl_template.specs.declared.refusal.SpellingRefusal.{SpellingRefusal};
-
-    ghost from_gives = { λ _ refusal. refusal ≡ SpellingRefusal.OutOfMemory };
-
-    fn from(_error: OutOfMemory) -> SpellingRefusal {
-        SpellingRefusal::OutOfMemory
-    }
-}
-
-impl From<AllocError> for TemplateRefusal {
+impl<E: WantOfMemory + Drop> From<E> for TemplateRefusal {
     ghost use Rattle.asl_template.specs.declared.refusal.TemplateRefusal.{TemplateRefusal};
 
     ghost from_gives = { λ _ refusal. refusal ≡ TemplateRefusal.OutOfMemory };
 
-    fn from(_error: AllocError) -> TemplateRefusal {
-        TemplateRefusal::OutOfMemory
-    }
-}
-
-impl<T: Drop> From<AllocFailed<T>> for TemplateRefusal {
-    ghost use Rattle.asl_template.specs.declared.refusal.TemplateRefusal.{TemplateRefusal};
-
-    ghost from_gives = { λ _ refusal. refusal ≡ TemplateRefusal.OutOfMemory };
-
-    fn from(_error: AllocFailed<T>) -> TemplateRefusal {
-        TemplateRefusal::OutOfMemory
-    }
-}
-
-impl From<OutOfMemory> for TemplateRefusal {
-    ghost use Rattle.asl_template.specs.declared.refusal.TemplateRefusal.{TemplateRefusal};
-
-    ghost from_gives = { λ _ refusal. refusal ≡ TemplateRefusal.OutOfMemory };
-
-    fn from(_error: OutOfMemory) -> TemplateRefusal {
+    fn from(_want: E) -> TemplateRefusal {
         TemplateRefusal::OutOfMemory
     }
 }

@@ -2,7 +2,7 @@
 
 use crate::loading::{Loaded, LoadedCase, Unfit, load};
 use asl_cases::{Coverage, difference, play};
-use asl_files::{end, or_out_of_memory, print_text};
+use asl_files::{end, print_text};
 use asl_machine::Machine;
 use asl_records::Declared;
 use asl_results::{CaseResult, Format, SuiteResult, report};
@@ -52,9 +52,9 @@ fn tested_on<R: Files + Input + Print + Eprint + AllocGlobal>(
     rt: &R,
     request: &TestRequest<'_>,
 ) -> Result<u8, RunFault> {
-    let tests = or_out_of_memory(tests_in(rt, request))?;
+    let tests = tests_in(rt, request)?;
     let _ = rt.eprint(&tests.notes);
-    let text = or_out_of_memory(report(rt.alloc(), &tests.results, request.format))?;
+    let text = report(rt.alloc(), &tests.results, request.format)?;
     print_text(rt, &text)?;
     Ok(tests.status())
 }

@@ -7,7 +7,7 @@ use Rattle.asl_model.specs.AnswersSpelling.{failing, only_fields, optional_text}
 use Rattle.asl_model.specs.Run.{Action, FailsTask}
 use Rattle.asl_model.specs.Test.{as_text}
 use Rattle.asl_model.specs.Tree as model
-use Rattle.asl_model.specs.Tree.{Fields, field_named}
+use Rattle.asl_model.specs.Tree.{field_named}
 use Rattle.asl_path.proofs.Nodes.{view-lookup}
 use Rattle.asl_tree.specs.View.{view, entries_view}
 use Rattle.asl_tree.specs.declared.Tree.{Tree, Object as object_tree, the_lemmas}

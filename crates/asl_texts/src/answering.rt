@@ -10,8 +10,8 @@ ghost use Rattle.asl_texts.specs.Answers.{IsAnswersRefusal, IsFirstOf};
 ghost use Rattle.asl_texts.specs.declared.answering.AnswersRefusal.TheVariants as refusals;
 
 use asl_run::Answer;
-use asl_tree::Tree;
-use std::alloc::{AllocError, AllocFailed, Global};
+use asl_tree::{Tree, WantOfMemory};
+use std::alloc::Global;
 use std::collections::{BTreeMap, VecDeque};
 use std::rc::Rc;
 
@@ -24,22 +24,12 @@ pub(crate) enum AnswersRefusal {
     OutOfMemory,
 }
 
-impl From<AllocError> for AnswersRefusal {
+impl<E: WantOfMemory + Drop> From<E> for AnswersRefusal {
     ghost use Rattle.asl_texts.specs.declared.answering.AnswersRefusal.{AnswersRefusal};
 
     ghost from_gives = { λ _ refusal. refusal ≡ AnswersRefusal.OutOfMemory };
 
-    fn from(_error: AllocError) -> AnswersRefusal {
-        AnswersRefusal::OutOfMemory
-    }
-}
-
-impl<T: Drop> From<AllocFailed<T>> for AnswersRefusal {
-    ghost use Rattle.asl_texts.specs.declared.answering.AnswersRefusal.{AnswersRefusal};
-
-    ghost from_gives = { λ _ refusal. refusal ≡ AnswersRefusal.OutOfMemory };
-
-    fn from(_error: AllocFailed<T>) -> AnswersRefusal {
+    fn from(_want: E) -> AnswersRefusal {
         AnswersRefusal::OutOfMemory
     }
 }

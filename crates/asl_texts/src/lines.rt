@@ -77,10 +77,7 @@ pub(crate) fn next_line<S: Source>(
         if front > TEXT_LIMIT - line.len() {
             return Err(RunFault::TooLong);
         }
-        match line.extend_from_slice(&rest[..front]) {
-            Ok(()) => {}
-            Err(_) => return Err(RunFault::OutOfMemory),
-        }
+        line.extend_from_slice(&rest[..front])?;
         chunk.take(front);
         if ends {
             chunk.take(1);

@@ -4,7 +4,7 @@ ghost use Rattle.std.specs.Prelude.{◌≡◌};
 
 use asl_machine::DefRefusal;
 use asl_records::RecordRefusal;
-use asl_tree::TreeRefusal;
+use asl_tree::{TreeRefusal, WantOfMemory};
 use thiserror::Error;
 
 /// One of the texts.
@@ -70,4 +70,14 @@ pub enum RunFault {
     Write,
     #[error("out of memory")]
     OutOfMemory,
+}
+
+impl<E: WantOfMemory + Drop> From<E> for RunFault {
+    ghost use Rattle.asl_texts.specs.declared.refusals.RunFault.{RunFault};
+
+    ghost from_gives = { λ _ fault. fault ≡ RunFault.OutOfMemory };
+
+    fn from(_want: E) -> RunFault {
+        RunFault::OutOfMemory
+    }
 }

@@ -74,10 +74,7 @@ pub fn run_texts<R: Source, W: Sink>(
     ensures lasting_write { IsTrue (W.failed out.old) → IsTrue (W.failed out.new) }
 {
     let given = read_given(alloc, definition, declared, input, answers)?;
-    let told = match run_given(alloc, given, order, max_steps) {
-        Ok(told) => told,
-        Err(_) => return Err(RunFault::OutOfMemory),
-    };
+    let told = run_given(alloc, given, order, max_steps)?;
     match write_all(out, &told.trace) {
         Ok(()) => Ok(told.end),
         Err(_) => Err(RunFault::Write),

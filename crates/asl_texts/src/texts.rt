@@ -36,9 +36,6 @@ pub fn read_text<S: Source>(alloc: Global, source: &mut S) -> Result<Vec<u8>, Ru
         if count > TEXT_LIMIT - text.len() {
             return Err(RunFault::TooLong);
         }
-        match text.extend_from_slice(&buffer[..count]) {
-            Ok(()) => {}
-            Err(_) => return Err(RunFault::OutOfMemory),
-        }
+        text.extend_from_slice(&buffer[..count])?;
     }
 }

@@ -1,5 +1,5 @@
 -- Which integers the token of a number writes.
-use Rattle.std.proofs.Common.{◌≡◌, ◌<◌, ◌≤◌, ◌^◌, ◌==◌, ℕ, zero, suc, ℤ, pos, neg_ℤ, List, drop, Bool, true, false, Option, Some, None, IfSome, option_and_then, int_lt, slice_index, FitsSigned, w64, lt-ltb, le-leb, eq-eqb, refl, sym, ap, ◌∙◌, arith}
+use Rattle.std.proofs.Common.{◌≡◌, ◌<◌, ◌≤◌, ◌^◌, ◌==◌, ℕ, zero, suc, ℤ, pos, neg_ℤ, List, drop, true, false, Option, Some, None, IfSome, option_and_then, int_lt, slice_index, FitsSigned, w64, lt-ltb, le-leb, eq-eqb, refl, ◌∙◌, arith}
 use Rattle.std.specs.Prelude.{SomeIff}
 use Rattle.std.proofs.lemmas.Int.{ints}
 use Rattle.fast_float.specs.Text.{Parts, IsInteger, digits_of, with_sign, minus, scan}

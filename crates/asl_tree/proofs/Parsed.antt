@@ -1,7 +1,6 @@
 -- What a reading of tokens spells, an element and a field at a time.
-use Rattle.std.proofs.Common.{◌≡◌, ℕ, ◌-◌, ◌<◌, ◌≤◌, List, [], ◌∷◌, ◌++◌, length, Option, Some, None, option_map, option_and_then, Ordering, Less, Equal, Greater, nat_cmp, refl, sym, ap, ◌∙◌}
+use Rattle.std.proofs.Common.{◌≡◌, ℕ, ◌-◌, ◌<◌, ◌≤◌, List, [], ◌∷◌, ◌++◌, length, Option, Some, None, option_map, option_and_then, Ordering, Less, Equal, Greater, nat_cmp, refl, ap, ◌∙◌}
 use Rattle.std.specs.Cmp.Lexicographic.{slice_cmp}
-use Rattle.std.specs.Ordering.{match_ordering}
 use Rattle.json.specs.Token.{Token}
 use Rattle.json.specs.Json as json
 use Rattle.json.specs.Json.{Parse, parse_map, after_end_array, read_key, items, members, value, if_last}
@@ -12,7 +11,7 @@ use Rattle.serde_json.specs.Read.{of_json, of_items, of_members, converted}
 use Rattle.asl_model.specs.Json.{tree_of, elements_of, members_of}
 use Rattle.asl_model.specs.Tree as model
 use Rattle.asl_tree.specs.Parsed.{spelled, spelled_elements, spelled_fields}
-use Rattle.asl_tree.specs.View.{view, elements_view, entries_view}
+use Rattle.asl_tree.specs.View.{view, elements_view}
 use Rattle.asl_tree.specs.declared.Tree.{Tree}
 use Rattle.asl_tree.proofs.Views.{put}
 

@@ -22,7 +22,7 @@ mod writing;
 pub use comparing::same;
 pub use copying::copy;
 pub use quoting::{in_line, quoted};
-pub use reading::{from_value, into_tree, read, read_value};
+pub use reading::{from_value, read, read_value};
 pub use wholeness::is_whole;
 pub use writing::{to_text, to_value, write};
 
@@ -41,6 +41,15 @@ pub enum Tree {
 /// An allocation was refused.
 #[derive(Debug, Drop)]
 pub struct OutOfMemory;
+
+/// What tells that an allocation was refused: a refusal with other reasons too is made of any such by one `From`.
+pub trait WantOfMemory {}
+
+impl WantOfMemory for OutOfMemory {}
+
+impl WantOfMemory for AllocError {}
+
+impl<T: Drop> WantOfMemory for AllocFailed<T> {}
 
 impl From<AllocError> for OutOfMemory {
     fn from(_error: AllocError) -> OutOfMemory {
@@ -65,22 +74,12 @@ pub enum TreeRefusal {
     OutOfMemory,
 }
 
-impl From<AllocError> for TreeRefusal {
+impl<E: WantOfMemory + Drop> From<E> for TreeRefusal {
     ghost use Rattle.asl_tree.specs.declared.TreeRefusal.{TreeRefusal};
 
     ghost from_gives = { λ _ refusal. refusal ≡ TreeRefusal.OutOfMemory };
 
-    fn from(_error: AllocError) -> TreeRefusal {
-        TreeRefusal::OutOfMemory
-    }
-}
-
-impl<T: Drop> From<AllocFailed<T>> for TreeRefusal {
-    ghost use Rattle.asl_tree.specs.declared.TreeRefusal.{TreeRefusal};
-
-    ghost from_gives = { λ _ refusal. refusal ≡ TreeRefusal.OutOfMemory };
-
-    fn from(_error: AllocFailed<T>) -> TreeRefusal {
+    fn from(_want: E) -> TreeRefusal {
         TreeRefusal::OutOfMemory
     }
 }

@@ -100,57 +100,7 @@ fn fields_from(
     Ok(fields)
 }
 
-/// The tree that a JSON value is: [`from_value`], of the value's own names and texts.
-///
-/// Refuses as [`TreeRefusal::NotWhole`] a value with a number that isn't whole or is out of an `i64`'s range.
-#[cycle(take_apart)]
-pub fn into_tree(alloc: Global, value: Value) -> Result<Tree, TreeRefusal>
-    ensures tree { IfOk result (λ t. tree_of (json_view value) ≡ Some (view t)) }
-    ensures no_tree { result ≡ Err NotWhole → tree_of (json_view value) ≡ None }
-    ensures of_value { ¬ (result ≡ Err NotJson) }
-{
-    match value {
-        Value::Null => Ok(Tree::Null),
-        Value::Bool(b) => Ok(Tree::Bool(b)),
-        Value::Number(number) => integer_from(&number),
-        Value::String(text) => Ok(Tree::Text(text)),
-        Value::Array(items) => Ok(Tree::List(into_elements(alloc, items)?)),
-        Value::Object(members) => Ok(Tree::Object(into_fields(alloc, members)?)),
-    }
-}
-
-#[cycle(take_apart)]
-fn into_elements(alloc: Global, items: Vec<Value>) -> Result<Vec<Tree>, TreeRefusal>
-    ensures elements { IfOk result
-        (λ v. elements_of (items_view items.items) ≡ Some (elements_view v.items)) }
-    ensures no_elements { result ≡ Err NotWhole → elements_of (items_view items.items) ≡ None }
-    ensures of_value { ¬ (result ≡ Err NotJson) }
-{
-    let mut elements = Vec::with_capacity(alloc, items.len())?;
-    for item in items {
-        elements.push(into_tree(alloc, item)?)?;
-    }
-    Ok(elements)
-}
-
-#[cycle(take_apart)]
-fn into_fields(
-    alloc: Global,
-    members: Map<String, Value>,
-) -> Result<BTreeMap<String, Tree>, TreeRefusal>
-    ensures fields { IfOk result
-        (λ m. members_of (members_view members.entries) ≡ Some (entries_view m.entries)) }
-    ensures no_fields { result ≡ Err NotWhole → members_of (members_view members.entries) ≡ None }
-    ensures of_value { ¬ (result ≡ Err NotJson) }
-{
-    let mut fields = BTreeMap::new(alloc);
-    for (name, member) in members {
-        drop(fields.insert(name, into_tree(alloc, member)?)?);
-    }
-    Ok(fields)
-}
-
-/// The tree that the bytes of `text` are: [`read_value`], then [`into_tree`], in one pass where it is a tree.
+/// The tree that the bytes of `text` are: [`read_value`], then [`from_value`], in one pass where it is a tree.
 pub fn read(alloc: Global, text: &[u8]) -> Result<Tree, TreeRefusal>
     ensures tree { IfOk result (λ t. ReadsAsTree text.now (view t)) }
     ensures no_value { result ≡ Err NotJson → (v : Data) → ¬ ReadsAsValue text.now v }
@@ -166,7 +116,7 @@ pub fn read(alloc: Global, text: &[u8]) -> Result<Tree, TreeRefusal>
         // What is wrong, and whether anything is, the JSON value tells.
         Err(TreeRefusal::NotJson | TreeRefusal::NotWhole) => {
             let value = read_value(alloc, text)?;
-            into_tree(alloc, value)
+            from_value(alloc, &value)
         }
     }
 }

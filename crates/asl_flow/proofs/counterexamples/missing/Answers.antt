@@ -1,4 +1,3 @@
-use Rattle.asl_shape.specs.View.{view}
 use Rattle.asl_flow.proofs.counterexamples.missing.Goals as goal
 
 pub missing_at-requires : goal.missing_at-requires

@@ -1,4 +1,3 @@
-use Rattle.asl_shape.specs.View.{view}
 use Rattle.asl_flow.proofs.rules.rule_shape.Goals as goal
 
 pub rule_shape_at-requires : goal.rule_shape_at-requires

@@ -1,5 +1,4 @@
 use Rattle.std.proofs.Common.{rules}
-use Rattle.asl_numbered.specs.Expansion.{shape_at}
 use Rattle.asl_shape.specs.View.{view}
 use Rattle.asl_template.specs.View as templates
 use Rattle.asl_flow.specs.Items.{item_view}

@@ -1,4 +1,4 @@
-use Rattle.std.proofs.Common.{Option, option_map, map, sym, ◌∙◌, subst}
+use Rattle.std.proofs.Common.{option_map, map, sym, ◌∙◌, subst}
 use Rattle.asl_lint.specs.Tells.{TellsOfTexts}
 use Rattle.asl_problems.specs.Told.{told_by}
 use Rattle.asl_lint.proofs.AllErrors.{all_errors}

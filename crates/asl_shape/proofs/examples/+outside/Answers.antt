@@ -3,7 +3,6 @@ use Rattle.std.proofs.lemmas.Grind.{common_steps}
 use Rattle.std.specs.Slice.Iter.{iter_rest}
 use Rattle.asl_model.specs.Examples.{mentioned_shape, needed_examples, outside, unmentioned_shape}
 use Rattle.asl_model.specs.Shape as model
-use Rattle.asl_model.specs.Shape.{mentions}
 use Rattle.asl_model.specs.ShapeOrder.{depth_of_elements, depth_of_fields}
 use Rattle.asl_shape.proofs.Depths.{fields_left_depth}
 use Rattle.asl_shape.proofs.OutsideTrees.{in_front-none, in_front-further, outside_next, outside_here, outside_behind, bounds_left, bounds_deep, field_found, field_fits, field_absent, shape_mentioned, none_mentioned, none_unmentioned, any_unmentioned, is_mentioned, lists_found}

@@ -1,7 +1,7 @@
-use Rattle.std.proofs.Common.{map, refl, arith, rules, Ok, Err}
+use Rattle.std.proofs.Common.{refl, arith}
 use Rattle.asl_suites.specs.Scripts as model
 use Rattle.asl_suites.specs.View.{script_view}
-use Rattle.asl_suites.proofs.Items.{one_changed, none_changed, when_changed, unless_changed}
+use Rattle.asl_suites.proofs.Items.{when_changed, unless_changed}
 use Rattle.asl_suites.proofs.answers.next_of_item.Goals as goal
 
 pub returns-in-Some-clause-left : goal.returns-in-Some-clause-left

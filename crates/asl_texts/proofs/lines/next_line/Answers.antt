@@ -53,7 +53,7 @@ returns-then-ends-clause-line g c =
     let left = left_by_fill old mid (prepend_known p rest) line c.pieces.invariant.taken c.fill.ensures.same in
     let count : n ≡ length (first_line p) = c.front_of_line-front.ensures.count ∙ ap (λ (v : List ℕ). length (first_line v)) c.rest-rest.ensures in
     let inside : n < length p = let P : List ℕ → Type 0 = λ v. n < length v in subst P c.rest-rest.ensures c.if-ends.true in
-    let extended : c.extend_from_slice.new.self.items ≡ line ++ take n p = c.in-Ok-extend_from_slice.ensures.items ∙ ap (λ (v : List ℕ). line ++ take n v) c.rest-rest.ensures in
+    let extended : c.extend_from_slice.new.self.items ≡ line ++ take n p = c.in_ok-extend_from_slice.ensures.items ∙ ap (λ (v : List ℕ). line ++ take n v) c.rest-rest.ensures in
     let passed : pending c.take-then-ends.new.self ≡ drop 1 (drop n p) = c.take-then-ends.ensures ∙ ap (λ (v : List ℕ). drop 1 v) c.take.ensures in
     let P : List ℕ → Type 0 = λ v. TakesLine old (prepend_known (pending c.take-then-ends.new.self) rest) v in
     let Q : List ℕ → Type 0 = λ v. TakesLine old (prepend_known v rest) (line ++ take n p) in
@@ -86,12 +86,12 @@ pieces-preserved g c =
     let left = left_by_fill old mid (prepend_known p rest) line c.pieces.invariant.taken c.fill.ensures.same in
     let count : n ≡ length (first_line p) = c.front_of_line-front.ensures.count ∙ ap (λ (v : List ℕ). length (first_line v)) c.rest-rest.ensures in
     let whole : length p ≤ n = let P : List ℕ → Type 0 = λ v. length v ≤ n in subst P c.rest-rest.ensures c.if-ends.false in
-    let extended : c.extend_from_slice.new.self.items ≡ line ++ take n p = c.in-Ok-extend_from_slice.ensures.items ∙ ap (λ (v : List ℕ). line ++ take n v) c.rest-rest.ensures in
+    let extended : c.extend_from_slice.new.self.items ≡ line ++ take n p = c.in_ok-extend_from_slice.ensures.items ∙ ap (λ (v : List ℕ). line ++ take n v) c.rest-rest.ensures in
     let P : List ℕ → Type 0 = λ v. LeavesLine old (prepend_known (pending c.take.new.self) rest) v in
     let Q : List ℕ → Type 0 = λ v. LeavesLine old (prepend_known v rest) (line ++ take n p) in
     let taken = subst P (sym extended) (subst Q (sym c.take.ensures) (left_by_piece old rest line p n count whole left)) in
     record {
-      within = omega (arith, c.in-Ok-extend_from_slice.ensures.len, length-take-le n c.rest-rest.result.now c.front_of_line-front.ensures.within);
+      within = omega (arith, c.in_ok-extend_from_slice.ensures.len, length-take-le n c.rest-rest.result.now c.front_of_line-front.ensures.within);
       taken = taken;
       unbroken = subst IsUnbroken (sym extended) (piece_unbroken line p n count whole c.pieces.invariant.unbroken);
       fronts = λ front before.

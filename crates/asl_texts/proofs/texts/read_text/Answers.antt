@@ -15,10 +15,10 @@ pieces-preserved g c =
     let after = g.S.Source.begins c.read.new.self in
     let text = c.pieces.text.items in
     let piece = take c.in-Ok.count c.read.new.buffer in
-    let grown : c.extend_from_slice.new.self.items ≡ text ++ piece = c.in-Ok-extend_from_slice.ensures.items in
+    let grown : c.extend_from_slice.new.self.items ≡ text ++ piece = c.in_ok-extend_from_slice.ensures.items in
     let read = Consumes-trans old now new text piece c.pieces.invariant.read c.in-Ok.ensures.bytes.0 in
     record {
-      within = omega (arith, c.in-Ok-extend_from_slice.ensures.len, length-take-le c.in-Ok.count c.read.new.buffer c.in-Ok.ensures.within.0);
+      within = omega (arith, c.in_ok-extend_from_slice.ensures.len, length-take-le c.in-Ok.count c.read.new.buffer c.in-Ok.ensures.within.0);
       read = subst (λ v. Consumes old new v) (sym grown) read;
       fronts = λ front begun. subst (λ v. HasFront after v front) (sym grown)
           (text_read_on before after text piece front (c.pieces.invariant.fronts front begun) (λ more there. (c.in-Ok.ensures.fronts more there).0));

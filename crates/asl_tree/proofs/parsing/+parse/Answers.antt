@@ -1,12 +1,12 @@
 use Rattle.std.proofs.Common.{◌≡◌, ◌-◌, ◌<◌, [], ◌∷◌, length, Some, None, string_bytes, sym, ap, ◌∙◌, arith, rules}
 use Rattle.std.proofs.lemmas.Result.{IfOk-weaker}
 use Rattle.json.specs.Token.{Token}
-use Rattle.json.specs.Json.{after_end_array, read_key, items, members, value, parse_map}
+use Rattle.json.specs.Json.{after_end_array, read_key, items, value, parse_map}
 use Rattle.json.specs.Reads.{token_of}
 use Rattle.json.proofs.Grammar.{value_is, read_key-shorter}
 use Rattle.serde_json.specs.Read.{converted}
 use Rattle.asl_model.specs.Tree as model
-use Rattle.asl_tree.specs.Parsed.{spelled, spelled_elements, spelled_fields}
+use Rattle.asl_tree.specs.Parsed.{spelled, spelled_elements}
 use Rattle.asl_tree.specs.View.{view, entries_view}
 use Rattle.asl_tree.specs.declared.Tree.{Text, Bool, Null, the_lemmas}
 use Rattle.asl_tree.proofs.Parsed.{array_opened, element_spelled, elements_over, field_found, fields_over, none_found, nothing_before, number_spelled, object_opened, tree_pushed, trees_before, trees_before_none}

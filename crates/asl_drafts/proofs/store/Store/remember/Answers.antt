@@ -1,4 +1,4 @@
-use Rattle.std.proofs.Common.{◌<◌, length, sym, subst, arith}
+use Rattle.std.proofs.Common.{◌<◌, length, sym, subst}
 use Rattle.asl_numbered.specs.Expansion.{Shows}
 use Rattle.asl_drafts.specs.Cuts.{cut_of}
 use Rattle.asl_drafts.proofs.Known.{cut_put}

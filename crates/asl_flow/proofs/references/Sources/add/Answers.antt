@@ -1,5 +1,4 @@
 use Rattle.std.proofs.Common.{◌∙◌}
-use Rattle.asl_shape.specs.View.{view}
 use Rattle.asl_numbered.specs.Laws.{kept_item, kept_item_within}
 use Rattle.asl_flow.proofs.references.Sources.add.Goals as goal
 

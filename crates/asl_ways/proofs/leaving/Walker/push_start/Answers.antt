@@ -1,5 +1,4 @@
-use Rattle.std.proofs.Common.{sym, subst}
-use Rattle.std.specs.Prelude.{IfSome, ◌<◌}
+use Rattle.std.specs.Prelude.{◌<◌}
 use Rattle.std.proofs.lemmas.Result.{on_ok_weaker}
 use Rattle.asl_ways.proofs.Added.{adds_any, adds_same}
 use Rattle.asl_ways.proofs.leaving.Walker.push_start.Goals as goal

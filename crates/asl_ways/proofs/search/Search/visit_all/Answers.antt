@@ -1,4 +1,4 @@
-use Rattle.std.proofs.Common.{◌∷◌, [], Some, get_or, take, map, refl, sym, ap, ◌∙◌, subst}
+use Rattle.std.proofs.Common.{◌∷◌, [], Some, get_or, take, map, refl, sym, ◌∙◌, subst}
 use Rattle.asl_ways.specs.Coming.{coming}
 use Rattle.asl_ways.specs.Seeking.{Visits}
 use Rattle.asl_ways.proofs.Found.{visits_of_none, visits_then}
