@@ -38,11 +38,10 @@ same_listed old new answer xs ys unchanged e t = rw unchanged (subst (λ bs. IfO
 -- what is listed along the walk with what stands there, in a table that has stayed the same
 pub listed_along : (around : Surroundings) (settings : Settings) (kind : Kind) (s : edges.DestinationShapes) (given : Shape) (entry : StateShapes) (steps : List edges.Walked) (old new : List Shape) (before after : List Listed) (answer : Result Unit OutOfMemory) → new ≡ old → s ≡ destination_shapes around → given ≡ gives_of around.declared around.name → entry ≡ around.entry
     → steps ≡ walk given settings kind entry
-    → breaches_along (destination_shapes around) (walk (gives_of around.declared around.name) settings kind around.entry) ≡ flow_breaches around settings kind
     → OnOk answer (Adds old before after (found_at around.name (breaches_along s steps))) → OnOk answer (Adds new before after (found_at around.name (flow_breaches around settings kind)))
-listed_along around settings kind s given entry steps old new before after answer unchanged standing gives same is law added =
-    let walked : breaches_along s steps ≡ breaches_along (destination_shapes around) (walk (gives_of around.declared around.name) settings kind around.entry) = rw (is, standing, gives, same) refl in
-    rw unchanged (subst (λ bs. OnOk answer (Adds old before after (found_at around.name bs))) (walked ∙ law) added)
+listed_along around settings kind s given entry steps old new before after answer unchanged standing gives same is added =
+    let walked : breaches_along s steps ≡ flow_breaches around settings kind = rw (is, standing, gives, same) refl in
+    rw unchanged (subst (λ bs. OnOk answer (Adds old before after (found_at around.name bs))) walked added)
 
 -- ---- an entry that is lent to the walk
 

@@ -20,7 +20,6 @@ use crate::listed::{Listed, list};
 use crate::lookups::Row;
 use crate::standing::Standing;
 use crate::tasks::number_task;
-use asl_model::shape_laws::walk_breaks_what_flow_breaks;
 use asl_numbered::Shapes;
 use asl_records::StateNumbers;
 use asl_state_edges::{Entry, FindingFault, edges_of};
@@ -91,7 +90,6 @@ impl Checker<'_> {
             (settings_view row.now.state.now.settings) (kind_view row.now.state.now.kind)))) }
         ensures keeps { Keeps shapes.old shapes.new }
     {
-        walk_breaks_what_flow_breaks();
         let task = number_task(shapes, self.declared, row.name)?;
         let entered = Entry {
             input: entry.input,

@@ -28,7 +28,7 @@ use Rattle.asl_infer.specs.declared.inferring.InferRefusal.TheVariants as refusa
 use Rattle.asl_infer.proofs.FirstNames.{have-named}
 use Rattle.asl_infer.proofs.MisnamedFindings.{BrokenStands, ExamplesStand, misnamed-stands}
 use Rattle.asl_infer.proofs.StrictRounds.{strict-ends, strict-settles, told-first}
-use Rattle.asl_infer.proofs.ToldFindings.{StandsInTable, WalkBreaks, in-rounds}
+use Rattle.asl_infer.proofs.ToldFindings.{StandsInTable, in-rounds}
 
 -- ---- by a table
 
@@ -96,8 +96,8 @@ module _ (shown : Machine) (declared : model.Declared) (rounds : ℕ) where
 
 -- ---- what is told stands for some certificate
 
-pub told-stands : StandsInTable → WalkBreaks → BrokenStands → ExamplesStand → (machine : Scope) (declared : model.Declared) (rounds : ℕ) (found : Finding) → IsWellNamed machine → IsTold (table_of machine) declared rounds found → IsOfMachine machine declared found
-told-stands law bridge broken shown machine declared rounds found well h = in-rounds law bridge machine declared names rounds found h
+pub told-stands : StandsInTable → BrokenStands → ExamplesStand → (machine : Scope) (declared : model.Declared) (rounds : ℕ) (found : Finding) → IsWellNamed machine → IsTold (table_of machine) declared rounds found → IsOfMachine machine declared found
+told-stands law broken shown machine declared rounds found well h = in-rounds law machine declared names rounds found h
   where
     names : (other : Finding) → Among (misnamed (table_of machine) declared) other → IsOfMachine machine declared other
     names other among = misnamed-stands broken shown machine declared other (λ n. have-named (table_of machine) n (well-distinct machine well) ∙ task-named machine n (distinct machine well)) among

@@ -1,10 +1,10 @@
 -- A finding that is told in a round stands for some certificate.
 use Rattle.std.proofs.Common.{◌≡◌, ℕ, zero, suc, List, [], ◌∷◌, Contains, slice_get, Some, Result, Ok, Err, refl, sym, ap, ◌∙◌, subst, inl, inr}
 use Rattle.asl_model.specs.Certificate.{Declared, StateShapes, gives_of, takes_of}
-use Rattle.asl_model.specs.Edges.{Walked, breaches_along, destination_shapes, walk}
-use Rattle.asl_model.specs.Finding.{Breach, Finding, Surroundings, found_at, surrounded_by, flow_breaches}
+use Rattle.asl_model.specs.Edges.{Walked, destination_shapes}
+use Rattle.asl_model.specs.Finding.{Breach, Finding, Surroundings, found_at, surrounded_by}
 use Rattle.asl_model.specs.Inference.{IsBrokenAnyway, StandsForSome, finding_of}
-use Rattle.asl_model.specs.Machine.{Kind, Scope, Settings, State, kind_of, settings_of}
+use Rattle.asl_model.specs.Machine.{Scope, State, kind_of, settings_of}
 use Rattle.asl_model.specs.Numbering.{Table, table_of}
 use Rattle.asl_model.specs.Shape.{Shape}
 use Rattle.asl_model.proofs.Listed.{first_in}
@@ -18,11 +18,7 @@ use Rattle.asl_infer.specs.Inferring.{IsOfMachine}
 abbrev pub StandsInTable : Type 0
 StandsInTable = (machine : Scope) (declared : Declared) (i : ℕ) (n : List ℕ) (state : State) (entry : StateShapes) (breach : Breach) → slice_get (table_of machine).names i ≡ Some n → slice_get (table_of machine).states i ≡ Some state → IsBrokenAnyway declared n state entry breach → StandsForSome machine declared (finding_of n breach)
 
--- the rules along a walk are those of what flows through a state
-abbrev pub WalkBreaks : Type 0
-WalkBreaks = (around : Surroundings) (settings : Settings) (kind : Kind) → breaches_along (destination_shapes around) (walk (gives_of around.declared around.name) settings kind around.entry) ≡ flow_breaches around settings kind
-
-module _ (law : StandsInTable) (bridge : WalkBreaks) (machine : Scope) (declared : Declared) where
+module _ (law : StandsInTable) (machine : Scope) (declared : Declared) where
   abbrev table : Table
   table = table_of machine
 
@@ -45,7 +41,7 @@ module _ (law : StandsInTable) (bridge : WalkBreaks) (machine : Scope) (declared
       anyway : (b : Breach) → Contains (own_breaches takes steps) b → IsBrokenAnyway declared row.name row.state entry b
       anyway b among inputs end =
           let around : Surroundings = surrounded_by declared inputs end row.name entry in
-          subst (λ rules. Contains rules b) (bridge around (settings_of row.state) (kind_of row.state)) (own-along (destination_shapes around) steps b among)
+          own-along (destination_shapes around) steps b among
 
       go : (breaches : List Breach) → own_breaches takes steps ≡ breaches → unless_found (found_at row.name breaches) (steps_taken table row.number steps draft) ≡ Err found → IsOfMachine machine declared found
       go [] is e = absurd (cc)

@@ -27,7 +27,7 @@ use asl_check::Finding;
 use asl_draft_laws::settled_drafts_are_closed;
 use asl_drafts::{Draft, Predecessors, Store, Waiting, Walker, order_of};
 use asl_model::inference_laws::a_broken_rule_of_a_state_stands;
-use asl_model::shape_laws::{findings_are_exactly_the_broken_rules, walk_breaks_what_flow_breaks};
+use asl_model::shape_laws::findings_are_exactly_the_broken_rules;
 use asl_records::{Certificate, Declared, NumberedCertificate, expand_certificate};
 use asl_states::Machine;
 use asl_tree::OutOfMemory;
@@ -173,6 +173,5 @@ fn told_findings_stand()
         → IsTold (table_of machine) declared rounds found → IsOfMachine machine declared found }
 {
     a_broken_rule_of_a_state_stands();
-    walk_breaks_what_flow_breaks();
     findings_are_exactly_the_broken_rules();
 }

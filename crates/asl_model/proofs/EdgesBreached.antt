@@ -1,4 +1,4 @@
--- The rules that are broken along the walk through a state are those that a checker may tell of what flows through it.
+-- The rules that are broken along the walk through a state, by the parts of the state.
 use Rattle.std.proofs.Common.{◌≡◌, ℕ, List, [], ◌∷◌, ◌++◌, map, Bool, true, false, if◌then◌else◌, Option, Some, None, Result, Ok, Err, codes, refl, sym, ap, ap₂, ◌∙◌, append_assoc}
 use Rattle.std.proofs.lemmas.List.{append-nil}
 use Rattle.asl_model.specs.Template.{Template}
@@ -7,8 +7,9 @@ use Rattle.asl_model.specs.Machine.{Catcher, Settings, Delay, Seconds, SecondsPa
 use Rattle.asl_model.specs.Shape.{Shape, Never, Shapes, ArrayShape, inhabited}
 use Rattle.asl_model.specs.ShapeFlow.{DoubtfulPath, found, literal, is_integer_shape, is_string_shape, rule_shape, is_settled, leave, Flow, FlowFault}
 use Rattle.asl_model.specs.Certificate.{takes_of, gives_of}
-use Rattle.asl_model.specs.Finding.{Surroundings, Breach, FindingFault, NoDefault, OutputNotCertified, NextInput, ScopeOutput, BranchInput, PayloadNotTaken, breach_of, breach_unless, breach_unless_sub, breaches_then, effective_flow, next_breaches, end_breaches, output_breaches, result_breaches, kind_breaches, delay_breaches, child_breaches, branch_breaches, item_flow, element_shape, map_result, map_breaches, as_first_elements, array_parts, with_elements, with_items, chosen_breaches, rule_breaches, rules_breaches, default_breaches, error_placed_shape, caught_breaches, catcher_breaches, work_breaches, settled_breaches, flow_breaches}
-use Rattle.asl_model.specs.Edges.{Walked, Breaks, DestinationShapes, destination_shapes, breaks_unless, walk_then, to_next, to_end, onward, walk_result, walk_named, walk_delay, to_child, to_branches, walk_items_result, walk_elements, with_elements_walked, walk_items, walk_chosen, walk_rule, walk_rules, walk_default, walk_caught, walk_catchers, walk_work, walk_settled, walk, breaches_at, breaches_along}
+use Rattle.asl_model.specs.Finding.{Surroundings, Breach, FindingFault, NoDefault, OutputNotCertified, NextInput, ScopeOutput, BranchInput, PayloadNotTaken, breach_of, breach_unless, breach_unless_sub, effective_flow, item_flow, element_shape, map_result, as_first_elements, array_parts, error_placed_shape, flow_breaches}
+use Rattle.asl_model.proofs.FlowRules.{breaches_then, next_breaches, end_breaches, output_breaches, result_breaches, kind_breaches, delay_breaches, child_breaches, branch_breaches, map_breaches, with_elements, with_items, chosen_breaches, rule_breaches, rules_breaches, default_breaches, caught_breaches, catcher_breaches, work_breaches, settled_breaches, rules_on_flow}
+use Rattle.asl_model.specs.Edges.{Walked, Breaks, DestinationShapes, destination_shapes, breaks_unless, walk_then, to_next, to_end, onward, walk_result, walk_named, walk_delay, to_child, to_branches, walk_items_result, walk_elements, with_elements_walked, walk_items, walk_chosen, walk_rule, walk_rules, walk_default, walk_caught, walk_catchers, walk_work, walk_settled, breaches_at, breaches_along}
 
 -- those along one walk and then another
 along_append : (standing : DestinationShapes) (steps further : List Walked) → breaches_along standing (steps ++ further) ≡ breaches_along standing steps ++ breaches_along standing further
@@ -176,5 +177,5 @@ module _ (around : Surroundings) (settings : Settings) where
   live_along false steps told h = refl
 
   -- the whole walk
-  pub walked_breaches : (kind : Kind) → breaches_along there (walk (gives_of around.declared around.name) settings kind around.entry) ≡ flow_breaches around settings kind
+  pub walked_breaches : (kind : Kind) → flow_breaches around settings kind ≡ rules_on_flow around settings kind
   walked_breaches kind = live_along (inhabited around.entry.input) (walk_then (walk_work settings kind around.entry) (effective_flow settings around.entry.input) ++ (walk_settled (gives_of around.declared around.name) settings kind around.entry ++ walk_catchers around.entry.input settings.catchers)) _ (parts_along kind)

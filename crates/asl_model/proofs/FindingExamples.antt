@@ -1,5 +1,5 @@
 -- A finding in the list has an example exactly where its fault is one that a tree shows.
-use Rattle.std.proofs.Common.{◌≡◌, ℕ, List, Bool, true, false, Option, Some, None, Result, Ok, Err, refl, subst, is_some, is_none, is_ok}
+use Rattle.std.proofs.Common.{◌≡◌, ℕ, List, true, false, Option, Some, None, Result, Ok, Err, refl, subst, is_some, is_none}
 use Rattle.asl_model.specs.Tree.{Tree}
 use Rattle.asl_model.specs.Path.{Segment}
 use Rattle.asl_model.specs.Machine.{Settings, Kind, Scope}

@@ -10,7 +10,9 @@ use Rattle.asl_model.specs.Shape.{Shape, Never, Arrays, WithoutArrays, ArraysOf,
 use Rattle.asl_model.specs.Examples.{outside}
 use Rattle.asl_model.specs.ShapeFlow.{DoubtfulPath, look, found, put, arrays_alone, is_integer_shape, is_string_shape, Doubt, template_shape, rule_shape, is_settled, FlowFault, MissingAt, MisfitAt, Flow, flow_then, doubt_fault, template_flow, through_template, path_flow, through_path, leave}
 use Rattle.asl_model.specs.Certificate.{takes_of}
-use Rattle.asl_model.specs.Finding.{FindingFault, WrongKind, ResultMayNotFit, NoDefault, PayloadNotTaken, OutputNotCertified, NextInput, ScopeOutput, BranchInput, CatchInput, Breach, plain_breach, breach_unless, breach_shown, breach_unless_sub, missing_breach, breach_of, breaches_then, Surroundings, effective_flow, kind_breaches, delay_breaches, child_breaches, branch_breaches, element_shape, item_flow, elements_of, array_parts, with_elements, with_items, rule_breaches, rules_breaches, default_breaches, error_placed_shape, caught_breaches, catcher_breaches, result_breaches, map_breaches, work_breaches, settled_breaches, flow_breaches}
+use Rattle.asl_model.specs.Finding.{FindingFault, WrongKind, ResultMayNotFit, NoDefault, PayloadNotTaken, OutputNotCertified, NextInput, ScopeOutput, BranchInput, CatchInput, Breach, plain_breach, breach_unless, breach_shown, breach_unless_sub, missing_breach, breach_of, Surroundings, effective_flow, element_shape, item_flow, elements_of, array_parts, error_placed_shape, flow_breaches}
+use Rattle.asl_model.proofs.EdgesBreached.{walked_breaches}
+use Rattle.asl_model.proofs.FlowRules.{breaches_then, kind_breaches, delay_breaches, child_breaches, branch_breaches, with_elements, with_items, rule_breaches, rules_breaches, default_breaches, caught_breaches, catcher_breaches, result_breaches, map_breaches, work_breaches, settled_breaches, rules_on_flow}
 use Rattle.asl_model.specs.FindingRules.{IsBranch, branch_is_first, branch_is_later, IsEffective, Target, ToState, ToEnd, next_target, Makes, makes_literal, makes_what_it_takes, makes_answer, lets_through, lets_default, lets_wait, lets_succeed, makes_outputs, makes_items, Leaves, Wants, wants_number, wants_text, wants_list, LooksUp, looks_up_input, looks_up_wanted, looks_up_output, Evaluates, evaluates_parameters, evaluates_item_selector, evaluates_result_selector, Puts, puts_result, puts_error_output, Starts, starts_branch, starts_item}
 use Rattle.asl_model.proofs.FindingShown.{HasDoubt, TellsFlow, tells_path, tells_template, tells_rule, tells_kind, tells_misfit, tells_failure, tells_no_default, tells_payload, tells_output, tells_next, tells_end, tells_child, tells_catch}
 use Rattle.asl_model.proofs.Listed.{none_in, first_in, first_or_later, map_in}
@@ -44,7 +46,7 @@ gone_in go_on flow s b e c = subst (λ o. Contains (breaches_then go_on o) b) (s
 module _ (around : Surroundings) (settings : Settings) (live : IsTrue (inhabited around.entry.input)) where
   -- the breaches of the state
   abbrev flow : Kind → List Breach
-  flow kind = flow_breaches around settings kind
+  flow kind = rules_on_flow around settings kind
 
   -- those of an effective input
   abbrev work_part : Kind → List Breach
@@ -211,33 +213,37 @@ module _ (around : Surroundings) (settings : Settings) (live : IsTrue (inhabited
       (Contains-append_left (rules_breaches around settings (Choice rules default) rules s) (default_breaches around settings (Choice rules default) rules default s) (missing_breach (codes "Choices") d)
       (rule_in (Choice rules default) rules s rule (missing_breach (codes "Choices") d) among (subst (λ o. Contains (rule_breaches around settings (Choice rules default) rule.next o) (missing_breach (codes "Choices") d)) (sym e) (first_in (missing_breach (codes "Choices") d) [])))))
 
-  -- each rule that is told
-  pub told_listed : (kind : Kind) {field : List ℕ} {fault : FindingFault} {example : Option Tree} → TellsFlow around settings kind field fault example → Contains (flow_breaches around settings kind) (record { field = field; fault = fault; example = example })
-  told_listed kind (tells_path {doubtful = d} looks e) = looked_up_in d looks e
-  told_listed kind (tells_template evaluates some doubt) = evaluated_in evaluates some doubt
-  told_listed kind (tells_rule {rules = rules} {default = default} {rule = rule} {s = s} {doubtful = d} is eff among e) = rule_missing kind rules default rule s d is eff among e
-  told_listed kind (tells_kind {s = s} {t = t} eff wants e h) = wrong_in s t wants eff e h
-  told_listed kind (tells_misfit {at = at} puts e) = put_in at puts e
-  told_listed kind (tells_failure evaluates some doubt) = evaluated_in evaluates some doubt
-  told_listed kind (tells_no_default {rules = rules} {s = s} is eff h) =
+  -- each rule that is told, by its part
+  by_part : (kind : Kind) {field : List ℕ} {fault : FindingFault} {example : Option Tree} → TellsFlow around settings kind field fault example → Contains (flow kind) (record { field = field; fault = fault; example = example })
+  by_part kind (tells_path {doubtful = d} looks e) = looked_up_in d looks e
+  by_part kind (tells_template evaluates some doubt) = evaluated_in evaluates some doubt
+  by_part kind (tells_rule {rules = rules} {default = default} {rule = rule} {s = s} {doubtful = d} is eff among e) = rule_missing kind rules default rule s d is eff among e
+  by_part kind (tells_kind {s = s} {t = t} eff wants e h) = wrong_in s t wants eff e h
+  by_part kind (tells_misfit {at = at} puts e) = put_in at puts e
+  by_part kind (tells_failure evaluates some doubt) = evaluated_in evaluates some doubt
+  by_part kind (tells_no_default {rules = rules} {s = s} is eff h) =
       subst (λ k. Contains (flow k) (plain_breach (codes "Default") NoDefault)) (sym is)
       (in_work (Choice rules None) s (plain_breach (codes "Default") NoDefault) eff
       (Contains-append_right (rules_breaches around settings (Choice rules None) rules s) (default_breaches around settings (Choice rules None) rules None s) (plain_breach (codes "Default") NoDefault)
       (unless_in (is_settled rules s) (codes "Default") NoDefault h)))
-  told_listed kind (tells_payload {resource = resource} {s = s} {t = t} is eff h) = subst (λ k. Contains (flow k) (shown_breach (codes "Parameters") PayloadNotTaken t)) (sym is) (in_work (Task resource) s (shown_breach (codes "Parameters") PayloadNotTaken t) eff (shown_in (codes "Parameters") PayloadNotTaken s (takes_of around.declared around.name) t h))
-  told_listed kind (tells_output {output = output} {target = target} {t = t} leaves h) = left_in leaves (shown_breach (codes "OutputPath") OutputNotCertified t) (own target)
+  by_part kind (tells_payload {resource = resource} {s = s} {t = t} is eff h) = subst (λ k. Contains (flow k) (shown_breach (codes "Parameters") PayloadNotTaken t)) (sym is) (in_work (Task resource) s (shown_breach (codes "Parameters") PayloadNotTaken t) eff (shown_in (codes "Parameters") PayloadNotTaken s (takes_of around.declared around.name) t h))
+  by_part kind (tells_output {output = output} {target = target} {t = t} leaves h) = left_in leaves (shown_breach (codes "OutputPath") OutputNotCertified t) (own target)
     where
       own : (to : Target) → Contains (going_breaches around.inputs around.entry.output around.end to output) (shown_breach (codes "OutputPath") OutputNotCertified t)
       own (ToState field next) = Contains-append_left (breach_unless_sub (codes "OutputPath") OutputNotCertified output (Some around.entry.output)) (breach_unless_sub field NextInput output (around.inputs next)) (shown_breach (codes "OutputPath") OutputNotCertified t) (shown_in (codes "OutputPath") OutputNotCertified output around.entry.output t h)
       own (ToEnd field) = Contains-append_left (breach_unless_sub (codes "OutputPath") OutputNotCertified output (Some around.entry.output)) (breach_unless_sub field ScopeOutput output around.end) (shown_breach (codes "OutputPath") OutputNotCertified t) (shown_in (codes "OutputPath") OutputNotCertified output around.entry.output t h)
-  told_listed kind (tells_next {output = output} {expected = expected} {field = field} {next = next} {t = t} leaves compared h) =
+  by_part kind (tells_next {output = output} {expected = expected} {field = field} {next = next} {t = t} leaves compared h) =
       left_in leaves (shown_breach field NextInput t)
       (Contains-append_right (breach_unless_sub (codes "OutputPath") OutputNotCertified output (Some around.entry.output)) (breach_unless_sub field NextInput output (around.inputs next)) (shown_breach field NextInput t) (sub_in field NextInput output (around.inputs next) expected t compared h))
-  told_listed kind (tells_end {output = output} {expected = expected} {field = field} {t = t} leaves e h) =
+  by_part kind (tells_end {output = output} {expected = expected} {field = field} {t = t} leaves e h) =
       left_in leaves (shown_breach field ScopeOutput t)
       (Contains-append_right (breach_unless_sub (codes "OutputPath") OutputNotCertified output (Some around.entry.output)) (breach_unless_sub field ScopeOutput output around.end) (shown_breach field ScopeOutput t) (sub_in field ScopeOutput output around.end expected t e h))
-  told_listed kind (tells_child {expected = expected} {t = t} starts compared h) = started_in expected t starts compared h
-  told_listed kind (tells_catch {catcher = catcher} {s = s} {expected = expected} {t = t} among e compared h) =
+  by_part kind (tells_child {expected = expected} {t = t} starts compared h) = started_in expected t starts compared h
+  by_part kind (tells_catch {catcher = catcher} {s = s} {expected = expected} {t = t} among e compared h) =
       in_catchers kind (shown_breach (codes "Catch") CatchInput t)
       (catcher_in settings.catchers catcher (shown_breach (codes "Catch") CatchInput t) among
       (subst (λ r. Contains (caught_breaches around.inputs catcher.next r) (shown_breach (codes "Catch") CatchInput t)) (sym e) (sub_in (codes "Catch") CatchInput s (around.inputs catcher.next) expected t compared h)))
+
+  -- each rule that is told
+  pub told_listed : (kind : Kind) {field : List ℕ} {fault : FindingFault} {example : Option Tree} → TellsFlow around settings kind field fault example → Contains (flow_breaches around settings kind) (record { field = field; fault = fault; example = example })
+  told_listed kind {field = field} {fault = fault} {example = example} tells = subst (λ rules. Contains rules (record { field = field; fault = fault; example = example })) (sym (walked_breaches around settings kind)) (by_part kind tells)

@@ -16,7 +16,9 @@ use Rattle.asl_model.specs.ShapeOrder.{join, joined_with_each}
 use Rattle.asl_model.specs.Examples.{outside}
 use Rattle.asl_model.specs.ShapeFlow.{DoubtfulPath, look, found, put, literal, arrays_alone, is_integer_shape, is_string_shape, template_shape, rule_shape, is_settled, Flow, template_flow, output_flow, result_leaves}
 use Rattle.asl_model.specs.Certificate.{Declared, StateShapes, Certificate, certified, certified_input, certified_output, input_among, output_among, branches_in, is_map, branch_shape, branch_end, item_end, or_never, takes_of, gives_of, EachHas, OutputFits, WorkFits, CaughtFits, CatchersFit, HasEntry, IsClosedAt}
-use Rattle.asl_model.specs.Finding.{FindingFault, Breach, Surroundings, surrounded_by, where_certified, NoDefault, BranchInput, NextInput, ScopeOutput, OutputNotCertified, PayloadNotTaken, CatchInput, breach_shown, breach_unless_sub, breaches_then, input_of_entry, input_to_compare, effective_flow, next_breaches, end_breaches, output_breaches, kind_breaches, delay_breaches, child_breaches, branch_breaches, as_first_elements, element_shape, item_flow, at_each_place, map_result, elements_of, array_parts, with_elements, with_items, chosen_breaches, rule_breaches, rules_breaches, default_breaches, error_output_shape, error_placed_shape, caught_breaches, catcher_breaches, result_breaches, map_breaches, work_breaches, settled_breaches, flow_breaches, state_breaches, scope_findings}
+use Rattle.asl_model.specs.Finding.{FindingFault, Breach, Surroundings, surrounded_by, where_certified, NoDefault, BranchInput, NextInput, ScopeOutput, OutputNotCertified, PayloadNotTaken, CatchInput, breach_shown, breach_unless_sub, input_of_entry, input_to_compare, effective_flow, as_first_elements, element_shape, item_flow, at_each_place, map_result, elements_of, array_parts, error_output_shape, error_placed_shape, flow_breaches, state_breaches, scope_findings}
+use Rattle.asl_model.proofs.EdgesBreached.{walked_breaches}
+use Rattle.asl_model.proofs.FlowRules.{breaches_then, next_breaches, end_breaches, output_breaches, kind_breaches, delay_breaches, child_breaches, branch_breaches, with_elements, with_items, chosen_breaches, rule_breaches, rules_breaches, default_breaches, caught_breaches, catcher_breaches, result_breaches, map_breaches, work_breaches, settled_breaches, rules_on_flow}
 use Rattle.asl_model.proofs.FindingScopes.{append-none, none-unless, flow-none, has-entry, state-certified}
 use Rattle.asl_model.proofs.Listed.{none_in, first_or_later}
 use Rattle.asl_model.proofs.SettledRules.{AllDecided, SomeTrue, settled-true}
@@ -377,7 +379,8 @@ state-closed machine declared certificate end n settings kind none e = record { 
     parts : (v : Tree) → Has there.shapes.input v → (worked ≡ []) × (settled ≡ []) × (caught ≡ [])
     parts v h =
         let flow : flow_breaches (surrounded_by declared inputs (Some end) n there.shapes) settings kind ≡ [] = subst (λ (o : Option StateShapes). where_certified (λ own. flow_breaches (surrounded_by declared inputs (Some end) n own) settings kind) o ≡ []) there.stands (flow-none machine declared certificate (Some end) n settings kind e) in
-        let first = append-none worked (settled ++ caught) (rw (has-inhabited there.shapes.input v h) at flow) in
+        let rules : rules_on_flow (surrounded_by declared inputs (Some end) n there.shapes) settings kind ≡ [] = sym (walked_breaches (surrounded_by declared inputs (Some end) n there.shapes) settings kind) ∙ flow in
+        let first = append-none worked (settled ++ caught) (rw (has-inhabited there.shapes.input v h) at rules) in
         let further = append-none settled caught first.1 in
         (first.0, further.0, further.1)
 

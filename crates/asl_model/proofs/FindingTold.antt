@@ -11,7 +11,9 @@ use Rattle.asl_model.specs.Shape.{Shape, Never, ArrayShape, Arrays, WithoutArray
 use Rattle.asl_model.specs.Examples.{outside}
 use Rattle.asl_model.specs.ShapeFlow.{DoubtfulPath, look, found, literal, arrays_alone, is_integer_shape, is_string_shape, Doubt, MayBeMissing, MayFail, template_shape, rule_shape, is_settled, FlowFault, Flow, flow_then, doubt_fault, template_flow, through_template, through_path, through_placing, output_flow, result_flow, Leaving, WithResult, WithInput, Nothing, leaving, leave_by, leave}
 use Rattle.asl_model.specs.Certificate.{takes_of, gives_of}
-use Rattle.asl_model.specs.Finding.{FindingFault, WrongKind, ResultMayNotFit, NoDefault, PayloadNotTaken, OutputNotCertified, NextInput, ScopeOutput, BranchInput, CatchInput, Breach, plain_breach, breach_unless, breach_shown, breach_unless_sub, missing_breach, breach_of, breaches_then, Surroundings, effective_flow, next_breaches, end_breaches, output_breaches, kind_breaches, delay_breaches, child_breaches, branch_breaches, as_first_elements, element_shape, item_flow, map_result, elements_of, array_parts, with_elements, with_items, rule_breaches, rules_breaches, default_breaches, error_placed_shape, caught_breaches, catcher_breaches, result_breaches, map_breaches, work_breaches, settled_breaches, flow_breaches}
+use Rattle.asl_model.specs.Finding.{FindingFault, WrongKind, ResultMayNotFit, NoDefault, PayloadNotTaken, OutputNotCertified, NextInput, ScopeOutput, BranchInput, CatchInput, Breach, plain_breach, breach_unless, breach_shown, breach_unless_sub, missing_breach, breach_of, Surroundings, effective_flow, as_first_elements, element_shape, item_flow, map_result, elements_of, array_parts, error_placed_shape, flow_breaches}
+use Rattle.asl_model.proofs.EdgesBreached.{walked_breaches}
+use Rattle.asl_model.proofs.FlowRules.{breaches_then, next_breaches, end_breaches, output_breaches, kind_breaches, delay_breaches, child_breaches, branch_breaches, with_elements, with_items, rule_breaches, rules_breaches, default_breaches, caught_breaches, catcher_breaches, result_breaches, map_breaches, work_breaches, settled_breaches, rules_on_flow}
 use Rattle.asl_model.specs.FindingRules.{IsBranch, branch_is_first, branch_is_later, IsEffective, Target, ToState, ToEnd, next_target, Makes, makes_literal, makes_what_it_takes, makes_answer, lets_through, lets_default, lets_wait, lets_succeed, makes_outputs, makes_items, IsSelected, GoesOut, goes_out_placed, goes_out_as_it_is, Leaves, wants_number, wants_text, wants_list, looks_up_input, looks_up_wanted, looks_up_output, Evaluates, evaluates_parameters, evaluates_item_selector, evaluates_result_selector, puts_result, puts_error_output, starts_branch, starts_item}
 use Rattle.asl_model.proofs.FindingShown.{HasDoubt, TellsFlow, tells_path, tells_template, tells_rule, tells_kind, tells_misfit, tells_failure, tells_no_default, tells_payload, tells_output, tells_next, tells_end, tells_child, tells_catch}
 use Rattle.asl_model.proofs.ShapeLook.{found-looked}
@@ -284,9 +286,9 @@ module _ (around : Surroundings) (settings : Settings) where
 
   -- ---- all of them
 
-  -- each breach of a state that has an around.entry
-  pub flow_tells : (kind : Kind) → (b : Breach) → Contains (flow_breaches around settings kind) b → IsTrue (inhabited around.entry.input) × TellsFlow around settings kind b.field b.fault b.example
-  flow_tells kind b c = go (inhabited around.entry.input) refl c
+  -- each breach of a state that has an entry, by its part
+  by_part : (kind : Kind) → (b : Breach) → Contains (rules_on_flow around settings kind) b → IsTrue (inhabited around.entry.input) × TellsFlow around settings kind b.field b.fault b.example
+  by_part kind b c = go (inhabited around.entry.input) refl c
     where
       all : List Breach
       all = breaches_then (work_breaches around settings kind) (effective_flow settings around.entry.input) ++ (settled_breaches around settings kind ++ catcher_breaches around.inputs around.entry.input settings.catchers)
@@ -300,3 +302,7 @@ module _ (around : Surroundings) (settings : Settings) where
       go : (t : Bool) → inhabited around.entry.input ≡ t → Contains (if t then all else []) b → IsTrue (inhabited around.entry.input) × ToldIn kind b
       go true e c = (e, each b c)
       go false e c = none_in b c
+
+  -- each breach of a state that has an entry
+  pub flow_tells : (kind : Kind) → (b : Breach) → Contains (flow_breaches around settings kind) b → IsTrue (inhabited around.entry.input) × TellsFlow around settings kind b.field b.fault b.example
+  flow_tells kind b c = by_part kind b (subst (λ rules. Contains rules b) (walked_breaches around settings kind) c)

@@ -40,6 +40,7 @@ pub mod FindingShown
 pub mod FindingStates
 pub mod FindingTold
 pub mod FreshName
+pub mod FlowRules
 pub mod JoinFuel
 pub mod Listed
 pub mod Listing

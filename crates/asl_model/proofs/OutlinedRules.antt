@@ -1,5 +1,5 @@
 -- The rules of a state need the starts of its scopes alone, and not their states.
-use Rattle.std.proofs.Common.{◌≡◌, refl, ap, ◌∙◌, ℕ, suc, List, [], ◌++◌, not, ◌&&◌, ◌||◌, ◌==◌, length, is_some, is_none, if◌then◌else◌, Option, Some, None, codes}
+use Rattle.std.proofs.Common.{◌≡◌, refl, sym, ap, ◌∙◌, ℕ, suc, List, [], ◌++◌, not, ◌&&◌, ◌||◌, ◌==◌, length, is_some, is_none, if◌then◌else◌, Option, Some, None, codes}
 use mathlib.Core.Path.{fun_ext}
 use Rattle.asl_model.specs.Path.{Segment}
 use Rattle.asl_model.specs.Template.{Template}
@@ -7,7 +7,9 @@ use Rattle.asl_model.specs.Machine.{Settings, Scope, State, StateOf, Kind, Pass,
 use Rattle.asl_model.specs.Shape.{Shape, Shapes, inhabited}
 use Rattle.asl_model.specs.ShapeFlow.{found}
 use Rattle.asl_model.specs.Certificate.{TaskShapes, Declared, StateShapes}
-use Rattle.asl_model.specs.Finding.{Surroundings, surrounded_by, where_certified, Breach, NotCertified, TaskUndeclared, breach_unless, has_form, is_certified, entry_breaches, element_shape, item_flow, with_items, child_breaches, branch_breaches, map_breaches, work_breaches, settled_breaches, catcher_breaches, effective_flow, breaches_then, flow_breaches}
+use Rattle.asl_model.specs.Finding.{Surroundings, surrounded_by, where_certified, Breach, NotCertified, TaskUndeclared, breach_unless, has_form, is_certified, entry_breaches, element_shape, item_flow, effective_flow, flow_breaches}
+use Rattle.asl_model.proofs.EdgesBreached.{walked_breaches}
+use Rattle.asl_model.proofs.FlowRules.{with_items, child_breaches, branch_breaches, map_breaches, work_breaches, settled_breaches, catcher_breaches, breaches_then, rules_on_flow}
 use Rattle.asl_model.specs.Numbering.{outline, kind_outline, scope_outline, scopes_outline}
 
 -- ---- the entry
@@ -84,14 +86,14 @@ module _ (around : Surroundings) (settings : Settings) where
   abbrev all_of : (Shape → List Breach) → List Breach → List Breach
   all_of work settled = if inhabited around.entry.input then breaches_then work (effective_flow settings around.entry.input) ++ (settled ++ catcher_breaches around.inputs around.entry.input settings.catchers) else []
 
-  kind-outlined : (kind : Kind) → flow_breaches around settings (kind_outline kind) ≡ flow_breaches around settings kind
+  kind-outlined : (kind : Kind) → rules_on_flow around settings (kind_outline kind) ≡ rules_on_flow around settings kind
   kind-outlined kind =
       ap (λ work. all_of work (settled_breaches around settings (kind_outline kind))) (fun_ext (λ (s : Shape). work-outlined kind s))
       ∙ ap (all_of (work_breaches around settings kind)) (settled-outlined kind)
 
 -- the rules on what flows through a state
 pub flow-outlined : (around : Surroundings) (state : State) → flow_breaches around (settings_of (outline state)) (kind_of (outline state)) ≡ flow_breaches around (settings_of state) (kind_of state)
-flow-outlined around (StateOf settings kind) = kind-outlined around settings kind
+flow-outlined around (StateOf settings kind) = walked_breaches around settings (kind_outline kind) ∙ kind-outlined around settings kind ∙ sym (walked_breaches around settings kind)
 
 -- so where an entry is certified
 pub flow-outlined_where : (declared : Declared) (inputs : List ℕ → Option Shape) (end : Option Shape) (n : List ℕ) (state : State) (entry : Option StateShapes)

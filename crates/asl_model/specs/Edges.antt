@@ -13,11 +13,11 @@ use Rattle.asl_model.specs.Shape.{Shape, Never, Shapes, ArrayShape, inhabited}
 use Rattle.asl_model.specs.ShapeFlow.{is_integer_shape, is_string_shape, found, literal, rule_shape, is_settled, leave}
 use Rattle.asl_model.specs.ShapeFlow.{Flow, DoubtfulPath}
 use Rattle.asl_model.specs.Certificate.{StateShapes, takes_of}
-use Rattle.asl_model.specs.Finding.{Surroundings, Breach, FindingFault, WrongKind, ResultMayNotFit}
-use Rattle.asl_model.specs.Finding.{plain_breach, missing_breach}
-use Rattle.asl_model.specs.Finding.{NoDefault, PayloadNotTaken, OutputNotCertified, NextInput, ScopeOutput, BranchInput}
-use Rattle.asl_model.specs.Finding.{CatchInput, breach_of, breach_unless_sub, effective_flow, item_flow, element_shape}
-use Rattle.asl_model.specs.Finding.{map_result, as_first_elements, array_parts, error_placed_shape}
+use Rattle.asl_model.specs.Breaches.{Surroundings, Breach, FindingFault, WrongKind, ResultMayNotFit}
+use Rattle.asl_model.specs.Breaches.{plain_breach, missing_breach}
+use Rattle.asl_model.specs.Breaches.{NoDefault, PayloadNotTaken, OutputNotCertified, NextInput, ScopeOutput, BranchInput}
+use Rattle.asl_model.specs.Breaches.{CatchInput, breach_of, breach_unless_sub, effective_flow, item_flow, element_shape}
+use Rattle.asl_model.specs.Breaches.{map_result, as_first_elements, array_parts, error_placed_shape}
 
 -- where a shape flows to
 pub data Destination : Type 0 where

@@ -1,4 +1,5 @@
 pub mod AnswersSpelling
+pub mod Breaches
 pub mod CallGrammar
 pub mod CallSpelling
 pub mod Certificate

@@ -1,6 +1,6 @@
 //! Laws about shapes: each is the contract of a public function with an empty body.
 
-ghost use Rattle.std.specs.Prelude.{◌≡◌, ◌↔◌, ℕ, Bool, IsTrue, List, [], None, Ok, Option, Some, is_ok, is_some};
+ghost use Rattle.std.specs.Prelude.{◌≡◌, ◌↔◌, Bool, IsTrue, List, [], None, Ok, Option, Some, is_ok, is_some};
 ghost use Rattle.std.specs.Prelude.{IfSome, not};
 ghost use Rattle.asl_model.specs.Tree.{Tree, IsProper};
 ghost use Rattle.asl_model.specs.Path.{Segment, Names};
@@ -17,10 +17,9 @@ ghost use Rattle.asl_model.specs.Examples.{example, outside, IsOutside};
 ghost use Rattle.asl_model.specs.ShapeFlow.{look, put, ItemHas, template_shape, rule_shape};
 ghost use Rattle.asl_model.specs.ShapeFlow.{leave, leaving, WithInput, WithResult};
 ghost use Rattle.asl_model.specs.Missing.{missing, IsMissing};
-ghost use Rattle.asl_model.specs.Certificate.{Certificate, Declared, StateShapes, IsClosed, gives_of};
+ghost use Rattle.asl_model.specs.Certificate.{Certificate, Declared, IsClosed};
 ghost use Rattle.asl_model.specs.RecordShapes.{HoldsForCertificate, HoldsForDeclared};
-ghost use Rattle.asl_model.specs.Edges.{breaches_along, destination_shapes, walk};
-ghost use Rattle.asl_model.specs.Finding.{Finding, has_example, Surroundings, findings, flow_breaches, Stands};
+ghost use Rattle.asl_model.specs.Finding.{Finding, has_example, findings, Stands};
 ghost use Rattle.asl_model.specs.FindingRules.{IsBroken};
 
 /// The test of membership in a shape is true exactly where the tree is valid against it.
@@ -149,12 +148,4 @@ pub fn findings_are_exactly_the_broken_rules()
     ensures shown { (machine : Scope) (declared : Declared) (certificate : Certificate)
         (finding : Finding) → Stands machine declared certificate finding
         → is_some finding.example ≡ has_example finding.fault }
-{}
-
-/// The rules that are broken along the walk through a state are those that a checker may tell of what flows through it.
-pub fn walk_breaks_what_flow_breaks()
-    ensures breaches { (around : Surroundings) (settings : Settings) (kind : Kind)
-        → breaches_along (destination_shapes around)
-        (walk (gives_of around.declared around.name) settings kind around.entry)
-        ≡ flow_breaches around settings kind }
 {}

@@ -55,4 +55,4 @@ returns-clause-adds c =
     let seen : standing_view d s ≡ destination_shapes around =
     standing_seen a b d c.number_task.ensures.keeps c.edges_of.ensures.keeps s c.requires.within entry c.requires.entry (scope_view row.scope.now) declared n task c.in_ok-task.ensures.numbered refl refl (c.end_of.ensures.seen d) in
     let same = entered entry c.deref.result c.deref.ensures.value b ∙ numbers_shown a b c.number_task.ensures.keeps entry c.requires.entry in
-    listed_along around settings kind _ _ _ _ d c.list_steps.new.shapes c.args.rules.now.items c.list_steps.new.rules.items c.list_steps.result c.list_steps.ensures.unchanged seen c.in_ok-task.ensures.numbered.gives same (ap (steps_of d) c.deref-2.ensures.value ∙ c.in_ok-steps.ensures.walked) (c.walk_breaks_what_flow_breaks.ensures.breaches around settings kind) c.list_steps.ensures.adds
+    listed_along around settings kind _ _ _ _ d c.list_steps.new.shapes c.args.rules.now.items c.list_steps.new.rules.items c.list_steps.result c.list_steps.ensures.unchanged seen c.in_ok-task.ensures.numbered.gives same (ap (steps_of d) c.deref-2.ensures.value ∙ c.in_ok-steps.ensures.walked) c.list_steps.ensures.adds
