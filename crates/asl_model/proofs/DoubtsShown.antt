@@ -1,6 +1,6 @@
 -- A comparison that fails has a tree outside, and a doubtful path a tree in which it names nothing: what `outside` and
 -- `found` answer, and what templates tell, against the trees that FindingRules asks for. Each way holds.
-use Rattle.std.proofs.Common.{◌≡◌, ℕ, true, false, List, Option, Some, None, Result, Ok, Err, IsTrue, is_ok, refl, sym, ap, subst, ◌∙◌}
+use Rattle.std.proofs.Common.{◌≡◌, ℕ, List, Option, Some, None, Result, Ok, Err, IsTrue, is_ok, refl, sym, ap, subst, ◌∙◌}
 use Rattle.std.proofs.lemmas.Bool.{false≢true}
 use Rattle.asl_model.specs.Tree.{Tree}
 use Rattle.asl_model.specs.Path.{Segment}

@@ -44,6 +44,7 @@ pub mod FlowRules
 pub mod JoinFuel
 pub mod Listed
 pub mod Listing
+pub mod NamedStates
 pub mod NamesInOrder
 pub mod NamesLead
 pub mod NumberedBack

@@ -1,7 +1,7 @@
 -- Where `rule_shape` answers a shape, the rule's test is true or false of every tree, and those of which it is true
 -- have that shape.
 use Rattle.std.proofs.Common.{◌≡◌, ℕ, List, [], ◌∷◌, Bool, true, false, ◌||◌, not, Option, Some, None, Result, Ok, Err, refl, sym, ◌∙◌, subst, arith}
-use Rattle.std.specs.Prelude.{IsTrue, is_some, option_and_then, if◌then◌else◌}
+use Rattle.std.specs.Prelude.{IsTrue, is_some, option_and_then}
 use Rattle.std.proofs.lemmas.Bool.{and_parts, and_from, false≢true}
 use Rattle.asl_model.specs.Tree.{Tree, Array, Object, Trees, Fields, field_named, element}
 use Rattle.asl_model.specs.Path.{Segment, Name, Index, child, named_by}

@@ -1,55 +1,25 @@
 -- The widest certificate has no fault of its own: each of the machine's states has an entry, and whatever flows is
 -- compared with Any.
-use Rattle.std.proofs.Common.{◌≡◌, refl, sym, ap, ◌∙◌, subst, ℕ, zero, suc, ◌<◌, List, [], ◌∷◌, ◌++◌, map, replicate, Contains, Bool, true, false, IsTrue, if◌then◌else◌, bytes_eq, slice_get, Option, Some, None, is_some, option_to_list, ◌⊎◌, inl, inr, arith}
-use Rattle.std.proofs.lemmas.Bool.{true≢false}
+use Rattle.std.proofs.Common.{◌≡◌, refl, sym, ap, ◌∙◌, subst, ℕ, zero, suc, List, [], ◌∷◌, ◌++◌, map, replicate, Contains, Bool, true, false, IsTrue, if◌then◌else◌, Option, Some, None, is_some, option_to_list}
 use Rattle.std.proofs.lemmas.List.{length-replicate}
 use Rattle.std.proofs.lemmas.List.Elements.{Contains-append_left, Contains-append_right}
-use Rattle.std.proofs.lemmas.Slice.Eq.{bytes_eq-Decides}
-use Rattle.asl_model.specs.Machine.{Catcher, Settings, Scope, States, NoStates, AndState, State, StateOf, Kind, Pass, Task, Choice, Wait, Succeed, Fail, Parallel, Map, Scopes, settings_of, kind_of, start_of, states_of, state_among, state_named, scope_at, how_many}
+use Rattle.asl_model.specs.Machine.{Catcher, Settings, Scope, State, StateOf, Kind, Pass, Task, Choice, Wait, Succeed, Fail, Parallel, Map, settings_of, kind_of, start_of, states_of, state_named, how_many}
 use Rattle.asl_model.specs.Tree.{Tree}
 use Rattle.asl_model.specs.Shape.{Shape, Any}
 use Rattle.asl_model.specs.Examples.{outside}
-use Rattle.asl_model.specs.ShapeSpelling.{are_distinct}
-use Rattle.asl_model.specs.Certificate.{Declared, StateShapes, Certificate, HasEntry, under, certified, branch_shape, branch_end, item_end, branches_in, is_map}
+use Rattle.asl_model.specs.Certificate.{Declared, StateShapes, Certificate, HasEntry, certified, branch_shape, branch_end, item_end, branches_in, is_map}
 use Rattle.asl_model.specs.Finding.{FindingFault, Finding, Surroundings, Stands}
-use Rattle.asl_model.specs.FindingRules.{IsAmong, state_is_first, state_is_later, IsBranch, branch_is_first, branch_is_later, HasScope, has_itself, has_branch, has_processor, HasState, IsSurrounded, IsCompared, compared_with_entry, compared_with_never, Target, ToState, ToEnd, next_target, Makes, makes_literal, makes_what_it_takes, makes_answer, lets_through, lets_default, lets_wait, lets_succeed, makes_outputs, makes_items, Starts, starts_branch, starts_item}
+use Rattle.asl_model.specs.FindingRules.{IsAmong, HasScope, has_itself, has_branch, has_processor, HasState, IsSurrounded, IsCompared, compared_with_entry, compared_with_never, Target, ToState, ToEnd, next_target, Makes, makes_literal, makes_what_it_takes, makes_answer, lets_through, lets_default, lets_wait, lets_succeed, makes_outputs, makes_items, Starts, starts_branch, starts_item}
 use Rattle.asl_model.specs.Test.{Rule}
 use Rattle.asl_model.specs.Inference.{is_of_machine, widest_entry, IsWidest}
-use Rattle.asl_model.specs.Numbering.{Standing, standing, kind_outline, outline, table_of, IsScopeOf, own_scope, scope_of_child, HasNamed, targets_of, targets_by, IsWellNamed}
+use Rattle.asl_model.specs.Numbering.{kind_outline, outline, table_of, HasNamed, targets_of, targets_by, IsWellNamed}
 use Rattle.asl_model.proofs.FindingRules.{told_exactly}
 use Rattle.asl_model.proofs.FindingShown.{TellsFlow, tells_path, tells_template, tells_rule, tells_kind, tells_misfit, tells_failure, tells_no_default, tells_payload, tells_output, tells_next, tells_end, tells_child, tells_catch, IsTold, told_uncertified, told_no_state, told_undeclared, told_unknown, told_start, told_flow}
-use Rattle.asl_model.proofs.Listed.{none_in, first_in, first_or_later, map_in}
-use Rattle.asl_model.proofs.NumberedScopes.{StandsAs, all_stand}
-use Rattle.asl_model.proofs.NumberedStates.{StandsAt, stands_at, number_found}
-use Rattle.asl_model.proofs.Numbering.{names_of_standing}
+use Rattle.asl_model.proofs.Listed.{first_in, map_in}
+use Rattle.asl_model.proofs.NamedStates.{branch_at, entry_there, found_among, scope_is, state_found}
 use Rattle.asl_model.proofs.OutlinedRules.{how-many-outlined}
 use Rattle.asl_model.proofs.RunOptions.{some_inj, none_some, some_there}
-use Rattle.asl_model.proofs.StandingStates.{state_stands, HasNumber, state_numbered, IsNamed, is_named}
-
--- ---- names in scopes
-
--- a state among those of a scope has a name that finds one
-named_among : {n : List ℕ} {state : State} {held : States} → IsAmong n state held → (other : State) × (state_among n held ≡ Some other)
-named_among {n} {state} (state_is_first {others = others}) = (state, ap (λ b. if b then Some state else state_among n others) ((bytes_eq-Decides n n).1 refl))
-named_among {n} (state_is_later {m = m} {other = other} {others = others} a) = go (bytes_eq m n) (named_among a)
-  where
-    go : (b : Bool) → (further : State) × (state_among n others ≡ Some further) → (found : State) × ((if b then Some other else state_among n others) ≡ Some found)
-    go true w = (other, refl)
-    go false w = w
-
--- what a name finds is among the states
-found_among : (n : List ℕ) (held : States) (state : State) → state_among n held ≡ Some state → IsAmong n state held
-found_among n (AndState m other others) state e = go (bytes_eq m n) refl e (found_among n others state)
-  where
-    go : (b : Bool) → bytes_eq m n ≡ b → (if b then Some other else state_among n others) ≡ Some state → (state_among n others ≡ Some state → IsAmong n state others) → IsAmong n state (AndState m other others)
-    go true f g further = subst (λ k. IsAmong n state (AndState k other others)) (sym ((bytes_eq-Decides m n).0 f)) (subst (λ s. IsAmong n state (AndState n s others)) (sym (some_inj g)) state_is_first)
-    go false f g further = state_is_later (further g)
-found_among n NoStates state e = absurd (cc)
-
--- the branch of a number
-branch_at : {branch : Scope} {i : ℕ} {branches : Scopes} → IsBranch branch i branches → (i < how_many branches) × (scope_at i branches ≡ branch)
-branch_at branch_is_first = (omega arith, refl)
-branch_at (branch_is_later b) = let w = branch_at b in (omega (arith, w.0), w.1)
+use Rattle.asl_model.proofs.StandingStates.{HasNumber, state_numbered, IsNamed, is_named}
 
 -- ---- the widest entry
 
@@ -74,16 +44,6 @@ each_any : (count i : ℕ) (s : Shape) → branch_shape i (replicate count Any) 
 each_any zero i s e = absurd (cc)
 each_any (suc count) zero s e = sym (some_inj e)
 each_any (suc count) (suc i) s e = each_any count i s e
-
--- a name that has an entry
-entry_there : (entries : List (List ℕ × StateShapes)) (entry : List ℕ × StateShapes) → Contains entries entry → IsTrue (is_some (under entry.0 entries))
-entry_there [] entry c = none_in entry c
-entry_there (first ∷ entries) entry c = go (bytes_eq first.0 entry.0) refl (first_or_later first entry entries c) (entry_there entries entry)
-  where
-    go : (b : Bool) → bytes_eq first.0 entry.0 ≡ b → (first ≡ entry) ⊎ Contains entries entry → (Contains entries entry → IsTrue (is_some (under entry.0 entries))) → IsTrue (is_some (if b then Some first.1 else under entry.0 entries))
-    go true f w further = refl
-    go false f (inl e) further = absurd (true≢false (sym ((bytes_eq-Decides first.0 entry.0).1 (ap (λ x. x.0) e)) ∙ f))
-    go false f (inr d) further = further d
 
 -- nothing is outside Any
 not_outside : {A : Type 0} (a s : Shape) {t : Tree} → s ≡ Any → outside a s ≡ Some t → A
@@ -143,32 +103,6 @@ module _ (machine : Scope) (declared : Declared) (certificate : Certificate) (we
     end : Option Shape
     state : HasState machine certificate n settings kind end
 
-  -- no name stands twice
-  distinct : are_distinct (map (λ (s : Standing). s.name) (standing machine)) ≡ true
-  distinct = ap are_distinct (names_of_standing None machine) ∙ well.distinct
-
-  -- so two states of one name are one
-  same_state : (scope : Scope) (n : List ℕ) (a b : State) → StandsAs (standing machine) scope n a → StandsAs (standing machine) scope n b → a ≡ b
-  same_state scope n a b first second =
-      let s : Standing = record { name = n; state = a; start = start_of scope; owner = first.owner } in
-      let t : Standing = record { name = n; state = b; start = start_of scope; owner = second.owner } in
-      let h : StandsAt (standing machine) s = stands_at (standing machine) s distinct first.listed in
-      let k : StandsAt (standing machine) t = stands_at (standing machine) t distinct second.listed in
-      let number : h.number ≡ k.number = some_inj (sym (number_found (standing machine) s h) ∙ number_found (standing machine) t k) in
-      ap (λ (u : Standing). u.state) (some_inj (sym h.here ∙ (ap (slice_get (standing machine)) number ∙ k.here)))
-
-  -- a state is found by its name
-  is_found : {n : List ℕ} {settings : Settings} {kind : Kind} {end : Option Shape} (state : HasState machine certificate n settings kind end) → IsScopeOf machine state.scope → state_named n state.scope ≡ Some (StateOf settings kind)
-  is_found {n} {settings} {kind} state is_scope =
-      let w = named_among state.among in
-      w.1 ∙ ap Some (same_state state.scope n w.0 (StateOf settings kind) (all_stand machine state.scope is_scope n w.0 w.1) (state_stands state))
-
-  -- and its scope is one of the machine's
-  scope_is : {scope : Scope} {end : Option Shape} → HasScope machine certificate scope end → IsScopeOf machine scope
-  scope_is has_itself = own_scope
-  scope_is (has_branch {scope = scope} {n = n} {settings = settings} {branches = branches} {i = i} s a b) = subst (IsScopeOf machine) (branch_at b).1 (scope_of_child n (StateOf settings (Parallel branches)) i (scope_is s) (is_found (record { scope = scope; has_scope = s; among = a }) (scope_is s)))
-  scope_is (has_processor {scope = scope} {processor = processor} {n = n} {settings = settings} {items = items} {selector = selector} s a) = scope_of_child n (StateOf settings (Map items selector processor)) 0 (scope_is s) (is_found (record { scope = scope; has_scope = s; among = a }) (scope_is s))
-
   -- a name that leads to a state of a scope is that of a state of the machine
   leads_there : {scope : Scope} {end : Option Shape} (n : List ℕ) → HasScope machine certificate scope end → HasNamed scope n → IsThere n
   leads_there {scope} {end} n s has = let w = some_there (state_named n scope) has in go w.0 (found_among n (states_of scope) w.0 w.1)
@@ -178,15 +112,15 @@ module _ (machine : Scope) (declared : Declared) (certificate : Certificate) (we
 
   -- what follows a state is there
   target_there : {n : List ℕ} {settings : Settings} {kind : Kind} {end : Option Shape} (m : List ℕ) → HasState machine certificate n settings kind end → Contains (targets_of (StateOf settings kind)) m → IsThere m
-  target_there {n} {settings} {kind} m state c = leads_there m state.has_scope (well.leads.targets state.scope (scope_is state.has_scope) n (StateOf settings kind) (is_found state (scope_is state.has_scope)) m c)
+  target_there {n} {settings} {kind} m state c = leads_there m state.has_scope (well.leads.targets state.scope (scope_is machine certificate well state.has_scope) n (StateOf settings kind) (state_found machine certificate well state) m c)
 
   -- so is the start state of a child
   started_there : {n : List ℕ} {around : Surroundings} {settings : Settings} {kind : Kind} {end : Option Shape} {field : List ℕ} {child : Scope} {s : Shape} → HasState machine certificate n settings kind end → Starts around settings kind field child s → IsThere (start_of child)
   started_there {n} {settings = settings} {child = child} state (starts_branch {branches = branches} {i = i} eff b) =
       let w = branch_at b in
-      leads_there (start_of child) (has_branch state.has_scope state.among b) (subst (λ c. HasNamed c (start_of c)) w.1 (well.leads.branch_starts state.scope (scope_is state.has_scope) n settings branches (is_found state (scope_is state.has_scope)) i w.0))
+      leads_there (start_of child) (has_branch state.has_scope state.among b) (subst (λ c. HasNamed c (start_of c)) w.1 (well.leads.branch_starts state.scope (scope_is machine certificate well state.has_scope) n settings branches (state_found machine certificate well state) i w.0))
   started_there {n} {settings = settings} {child = child} state (starts_item {items = items} {selector = selector} eff found parts flows) =
-      leads_there (start_of child) (has_processor state.has_scope state.among) (well.leads.processor_starts state.scope (scope_is state.has_scope) n settings items selector child (is_found state (scope_is state.has_scope)))
+      leads_there (start_of child) (has_processor state.has_scope state.among) (well.leads.processor_starts state.scope (scope_is machine certificate well state.has_scope) n settings items selector child (state_found machine certificate well state))
 
   -- ---- entries
 
