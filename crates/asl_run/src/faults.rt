@@ -7,18 +7,26 @@ use asl_tree::WantOfMemory;
 /// The six errors of data flow. `Path.NamesNothing` and `Path.WrongKind` are the profile's own.
 #[derive(Clone, Copy, Debug, Drop)]
 pub enum DataFlowError {
+    /// `States.ParameterPathFailure`: a path in a template names nothing.
     ParameterPathFailure,
+    /// `States.ResultPathMatchFailure`: a result, or an error's output, can't be placed where the path says.
     ResultPathMatchFailure,
+    /// `States.NoChoiceMatched`: no rule of a Choice is true, and it has no `Default`.
     NoChoiceMatched,
+    /// `States.IntrinsicFailure`: a call in a template has no value.
     IntrinsicFailure,
+    /// `Path.NamesNothing`: a path elsewhere names nothing.
     NamesNothing,
+    /// `Path.WrongKind`: a path names a value of another kind than its field wants.
     WrongKind,
 }
 
 /// A data-flow fault: its error, and the name of the field where it was met.
 #[derive(Clone, Copy, Debug, Drop)]
 pub struct Fault {
+    /// Which of the six.
     pub error: DataFlowError,
+    /// The state's field, such as `ResultPath`.
     pub field: &'static str,
 }
 
