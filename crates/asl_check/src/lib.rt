@@ -31,4 +31,5 @@ pub use asl_records::{
 };
 pub use asl_state_edges::{Broken, FindingFault};
 pub use checker::{check, check_numbered, find_all};
+pub use ordered::names_in_order;
 pub use verdicts::{Finding, Located, MissingPath, Verdict};

@@ -9,7 +9,7 @@ use asl_shape::proper;
 
 /// In the shapes of objects that are declared the names of fields stand in byte order. Looks at each shape once, and
 /// takes no memory.
-pub(crate) fn names_in_order(declared: &Declared)
+pub fn names_in_order(declared: &Declared)
     ensures { HoldsForDeclared IsOrdered (declared_view declared.now) }
 {
     // What a shape is told to be doesn't matter here: of each that is looked at the names are known to stand in order.

@@ -5,6 +5,8 @@ pub mod DraftsStay
 pub mod OneAnswer
 pub mod PassedOver
 pub mod SettledClosed
+pub mod SettledRules
 pub mod TakenIn
 pub mod WalkLeads
+pub mod WalkOrdered
 pub mod WalkedClosed

@@ -118,7 +118,7 @@ names-right table declared (suc n) draft h = go (after_rounds table declared n) 
 -- ---- rows of the table
 
 module _ (machine : Scope) (w : IsWellNamed machine) where
-  abbrev table : Table
+  abbrev pub table : Table
   table = table_of machine
 
   distinct-standing : are_distinct (map (λ (s : Standing). s.name) (standing machine)) ≡ true
@@ -188,11 +188,11 @@ module _ (machine : Scope) (w : IsWellNamed machine) where
   -- ---- the certificate of a draft
 
   module _ (declared : Declared) (draft : Draft) (is : IsDraftOf table draft) (rests : AreAtRest table declared (rows_of table) draft) where
-    abbrev certificate : Certificate
+    abbrev pub certificate : Certificate
     certificate = certificate_of table draft
 
     -- what is certified of a state of the table
-    certified-at : (k : ℕ) (n : List ℕ) (state : State) → slice_get table.names k ≡ Some n → slice_get table.states k ≡ Some state → certified certificate n ≡ Some (entry_of draft (record { number = k; name = n; state = state }))
+    pub certified-at : (k : ℕ) (n : List ℕ) (state : State) → slice_get table.names k ≡ Some n → slice_get table.states k ≡ Some state → certified certificate n ≡ Some (entry_of draft (record { number = k; name = n; state = state }))
     certified-at k n state named shown = certified-row table draft distinct-names k n state named shown
 
     at-rest : (rows : List Row) → AreAtRest table declared rows draft → (row : Row) → Among rows row → IsAtRest table declared row draft
@@ -215,7 +215,7 @@ module _ (machine : Scope) (w : IsWellNamed machine) where
         subst (Inside s) (sym same) (output-stays draft k (kind_of state) s has stays)
 
     -- what flows to the end of a scope where it stays is inside what is certified there
-    abbrev EndsInside : ℕ → Shape → Type 0
+    abbrev pub EndsInside : ℕ → Shape → Type 0
     EndsInside k end = (s : Shape) → taken_at (target_of table k ToEnd) s draft ≡ draft → Inside s end
 
     module _ (k : ℕ) (n : List ℕ) (state : State) (named : slice_get table.names k ≡ Some n) (shown : slice_get table.states k ≡ Some state) (end : Shape) (ends : EndsInside k end) where
@@ -233,18 +233,24 @@ module _ (machine : Scope) (w : IsWellNamed machine) where
           (edge-fits edge edge.destination parts.0 stay.0 lead.0, steps-fit steps parts.1 stay.1 lead.1)
       steps-fit (Breaks breach ∷ steps) whole stay lead = absurd (cc)
 
+    -- all that flows through a state of a scope is inside what is certified there
+    pub state-fits : (scope : Scope) → IsScopeOf machine scope → (n : List ℕ) (settings : Settings) (kind : Kind) → state_named n scope ≡ Some (StateOf settings kind) → (k : ℕ) → slice_get table.names k ≡ Some n → slice_get table.states k ≡ Some (StateOf settings (kind_outline kind)) → (end : Shape) → EndsInside k end → AllFit declared certificate end n (walk (gives_of declared n) settings kind (entry_of draft (record { number = k; name = n; state = StateOf settings (kind_outline kind) })))
+    state-fits scope is_scope n settings kind e k named shown end ends =
+        let row : Row = record { number = k; name = n; state = StateOf settings (kind_outline kind) } in
+        let entry = entry_of draft row in
+        let rest = at-rest (rows_of table) rests row (row-there table k n (StateOf settings (kind_outline kind)) named shown) in
+        let lead : AllLead LeadsTo (walk (gives_of declared n) settings (kind_outline kind) entry) = subst (AllLead LeadsTo) (sym (walk-outlined (gives_of declared n) settings entry kind)) (edges-lead scope is_scope n (gives_of declared n) settings kind entry e) in
+        subst (AllFit declared certificate end n) (walk-outlined (gives_of declared n) settings entry kind) (steps-fit k n (StateOf settings (kind_outline kind)) named shown end ends (walk (gives_of declared n) settings (kind_outline kind) entry) rest.whole rest.stays lead)
+
     -- the certificate is closed at a state of a scope
     closed-at : (scope : Scope) → IsScopeOf machine scope → (n : List ℕ) (settings : Settings) (kind : Kind) → state_named n scope ≡ Some (StateOf settings kind) → (k : ℕ) → slice_get table.names k ≡ Some n → slice_get table.states k ≡ Some (StateOf settings (kind_outline kind)) → (end : Shape) → EndsInside k end → IsClosedAt declared certificate end n (StateOf settings kind)
     closed-at scope is_scope n settings kind e k named shown end ends =
         let row : Row = record { number = k; name = n; state = StateOf settings (kind_outline kind) } in
         let entry = entry_of draft row in
-        let rest = at-rest (rows_of table) rests row (row-there table k n (StateOf settings (kind_outline kind)) named shown) in
         let has = entry-there table draft k (StateOf settings (kind_outline kind)) is shown in
         let form = subst (λ (shapes : StateShapes). (length shapes.branches ≡ branches_in (kind_outline kind)) × (is_some shapes.item ≡ is_map (kind_outline kind))) (sym (entry-of draft row has)) (entry-form (kind_outline kind) has.entry has.many) in
         let there : HasEntry certificate n kind = record { shapes = entry; stands = certified-at k n (StateOf settings (kind_outline kind)) named shown; branches = form.0 ∙ branches-same kind; item = form.1 ∙ map-same kind } in
-        let lead : AllLead LeadsTo (walk (gives_of declared n) settings (kind_outline kind) entry) = subst (AllLead LeadsTo) (sym (walk-outlined (gives_of declared n) settings entry kind)) (edges-lead scope is_scope n (gives_of declared n) settings kind entry e) in
-        let fits = steps-fit k n (StateOf settings (kind_outline kind)) named shown end ends (walk (gives_of declared n) settings (kind_outline kind) entry) rest.whole rest.stays lead in
-        walked-closed declared certificate end n settings kind there (subst (AllFit declared certificate end n) (walk-outlined (gives_of declared n) settings entry kind) fits)
+        walked-closed declared certificate end n settings kind there (state-fits scope is_scope n settings kind e k named shown end ends)
       where
         branches-same : (other : Kind) → branches_in (kind_outline other) ≡ branches_in other
         branches-same (Pass result) = refl
@@ -266,18 +272,34 @@ module _ (machine : Scope) (w : IsWellNamed machine) where
         map-same (Parallel branches) = refl
         map-same (Map items selector processor) = refl
 
+    -- the number of a state, and what flows to the end of its scope
+    pub record HasEnd (n : List ℕ) (settings : Settings) (kind : Kind) (end : Shape) : Type 0 where
+      pub number : ℕ
+      pub named : slice_get table.names number ≡ Some n
+      pub shown : slice_get table.states number ≡ Some (StateOf settings (kind_outline kind))
+      pub inside : EndsInside number end
+
+    pub own-end : (n : List ℕ) (settings : Settings) (kind : Kind) → state_named n machine ≡ Some (StateOf settings kind) → HasEnd n settings kind certificate.output
+    own-end n settings kind e =
+        let s = stands (record { name = n; state = StateOf settings kind; start = start_of machine; owner = None }) (found-in None machine n (StateOf settings kind) e) in
+        record {
+          number = s.number;
+          named = s.named;
+          shown = s.shown;
+          inside = λ shape stays.
+              let taken : taken_at (Some MachineOutput) shape draft ≡ draft = subst (λ o. taken_at (option_map (λ (p : Placement). end_target p.owner) o) shape draft ≡ draft) s.placed stays in
+              stays-inside shape draft.output is.output (ap (λ (d : Draft). d.output) taken);
+        }
+
     -- in the machine's own scope
     own-closed : (n : List ℕ) (state : State) → state_named n machine ≡ Some state → IsClosedAt declared certificate certificate.output n state
     own-closed n (StateOf settings kind) e =
-        let s = stands (record { name = n; state = StateOf settings kind; start = start_of machine; owner = None }) (found-in None machine n (StateOf settings kind) e) in
-        let ends : EndsInside s.number draft.output.shape = λ shape stays.
-        let taken : taken_at (Some MachineOutput) shape draft ≡ draft = subst (λ o. taken_at (option_map (λ (p : Placement). end_target p.owner) o) shape draft ≡ draft) s.placed stays in
-        stays-inside shape draft.output is.output (ap (λ (d : Draft). d.output) taken) in
-        closed-at machine own_scope n settings kind e s.number s.named s.shown draft.output.shape ends
+        let s = own-end n settings kind e in
+        closed-at machine own_scope n settings kind e s.number s.named s.shown certificate.output s.inside
 
-    -- in the scope of a child
-    child-closed : (scope : Scope) → IsScopeOf machine scope → (n : List ℕ) (parent : State) → state_named n scope ≡ Some parent → (i : ℕ) (m : List ℕ) (inner : State) → state_named m (child_scope (kind_of parent) i) ≡ Some inner → IsClosedAt declared certificate (or_never (child_end (kind_of parent) (certified certificate n) i)) m inner
-    child-closed scope is_scope n (StateOf above parent) e i m (StateOf settings kind) f =
+    -- the end of the scope of a child
+    pub child-end : (scope : Scope) → IsScopeOf machine scope → (n : List ℕ) (above : Settings) (parent : Kind) → state_named n scope ≡ Some (StateOf above parent) → (i : ℕ) (m : List ℕ) (settings : Settings) (kind : Kind) → state_named m (child_scope parent i) ≡ Some (StateOf settings kind) → HasEnd m settings kind (or_never (child_end parent (certified certificate n) i))
+    child-end scope is_scope n above parent e i m settings kind f =
         let found = found-child n parent i m (StateOf settings kind) f in
         let outer = all_stand machine scope is_scope n (StateOf above parent) e in
         let owner : Standing = record { name = n; state = StateOf above parent; start = start_of scope; owner = outer.owner } in
@@ -294,7 +316,13 @@ module _ (machine : Scope) (w : IsWellNamed machine) where
         let part = end-stays draft own.number (kind_outline parent) found.child shape has found.within taken in
         let same : end ≡ part.shape = ap (λ o. or_never (child_end parent o i)) (certified-at own.number n (StateOf above (kind_outline parent)) own.named own.shown ∙ ap Some (entry-of draft row has)) ∙ found.end has.entry part.shape part.at in
         subst (Inside shape) (sym same) part.inside in
-        closed-at (child_scope parent i) (scope_of_child n (StateOf above parent) i is_scope e) m settings kind f s.number s.named s.shown end ends
+        record { number = s.number; named = s.named; shown = s.shown; inside = ends }
+
+    -- in the scope of a child
+    child-closed : (scope : Scope) → IsScopeOf machine scope → (n : List ℕ) (parent : State) → state_named n scope ≡ Some parent → (i : ℕ) (m : List ℕ) (inner : State) → state_named m (child_scope (kind_of parent) i) ≡ Some inner → IsClosedAt declared certificate (or_never (child_end (kind_of parent) (certified certificate n) i)) m inner
+    child-closed scope is_scope n (StateOf above parent) e i m (StateOf settings kind) f =
+        let s = child-end scope is_scope n above parent e i m settings kind f in
+        closed-at (child_scope parent i) (scope_of_child n (StateOf above parent) i is_scope e) m settings kind f s.number s.named s.shown (or_never (child_end parent (certified certificate n) i)) s.inside
 
     -- the declared input
     start-inside : input_taken table declared draft ≡ draft → Inside declared.input (certified_input certificate (start_of machine))

@@ -2,11 +2,13 @@
 //! function with an empty body.
 #![tactic(auto)]
 
-ghost use Rattle.std.specs.Prelude.{◌≡◌, ℕ, Ok, Some};
+ghost use Rattle.std.specs.Prelude.{◌≡◌, ℕ, [], Ok, Some};
 ghost use Rattle.asl_model.specs.Certificate.{Declared, IsClosed};
+ghost use Rattle.asl_model.specs.Finding.{findings};
 ghost use Rattle.asl_model.specs.Machine.{Scope};
 ghost use Rattle.asl_model.specs.Numbering.{Table, table_of, IsWellNamed};
-ghost use Rattle.asl_model.specs.Shape.{Shape};
+ghost use Rattle.asl_model.specs.RecordShapes.{HoldsForCertificate, HoldsForDeclared};
+ghost use Rattle.asl_model.specs.Shape.{IsOrdered, Shape};
 ghost use Rattle.asl_draft_laws.specs.Drafts.{Draft, Row, Settles, Target, certificate_of, taken_at, walked};
 ghost use Rattle.asl_draft_laws.specs.Resting.{Memory, Rests, IsPassedBy, IsTakenIn};
 
@@ -16,6 +18,15 @@ pub fn settled_drafts_are_closed()
     ensures closed { (machine : Scope) (declared : Declared) (rounds : ℕ) (draft : Draft)
         → IsWellNamed machine → Settles (table_of machine) declared rounds draft
         → IsClosed declared (certificate_of (table_of machine) draft) machine }
+{}
+
+/// So it breaks no rule, where names stand in order in what is declared and in what is certified.
+pub fn settled_drafts_break_no_rule()
+    ensures none { (machine : Scope) (declared : Declared) (rounds : ℕ) (draft : Draft)
+        → IsWellNamed machine → Settles (table_of machine) declared rounds draft
+        → HoldsForDeclared IsOrdered declared
+        → HoldsForCertificate IsOrdered (certificate_of (table_of machine) draft)
+        → findings machine declared (certificate_of (table_of machine) draft) ≡ [] }
 {}
 
 /// A state that is at rest may be passed over in a round. It stays at rest where a shape changes at which it doesn't look,

@@ -1,15 +1,22 @@
 -- What is inferred of a machine.
-use Rattle.std.proofs.Common.{◌≡◌, ℕ, List, true, None, sym, ap, ◌∙◌, subst}
+use Rattle.std.proofs.Common.{◌≡◌, ℕ, List, [], IfOk, Result, Ok, Err, true, None, sym, ap, ◌∙◌, subst}
 use Rattle.asl_model.specs.Certificate as model
 use Rattle.asl_model.specs.Certificate.{IsClosed}
-use Rattle.asl_model.specs.Finding.{Finding}
+use Rattle.asl_model.specs.Finding.{Finding, findings}
 use Rattle.asl_model.specs.Machine.{Scope}
 use Rattle.asl_model.specs.Numbering.{IsWellNamed, Table, standing, table_of}
 use Rattle.asl_model.specs.ShapeSpelling.{are_distinct}
 use Rattle.asl_model.proofs.Numbering.{names_of_standing, outlined_names}
 use Rattle.asl_draft_laws.specs.Drafts.{Draft, IsInferred, IsTold, Settles, certificate_of, misnamed}
 use Rattle.asl_draft_laws.proofs.CertifiedRows.{Among}
-use Rattle.asl_model.specs.Shape.{Shape}
+use Rattle.asl_model.specs.RecordShapes.{HoldsForCertificate, HoldsForDeclared}
+use Rattle.asl_model.specs.Shape.{IsOrdered, IsProperShape, Shape}
+use Rattle.asl_model.proofs.RecordsBack.{both_certificate}
+use Rattle.asl_model.proofs.ShapeExample.{proper-ordered}
+use Rattle.asl_numbered.specs.Expansion.{shape_at}
+use Rattle.asl_records.proofs.References.{certificate_proper}
+use Rattle.asl_records.specs.Numbered.{numbered_view}
+use Rattle.asl_records.specs.declared.records.NumberedCertificate.{NumberedCertificate}
 use Rattle.asl_records.specs.View.{declared_view}
 use Rattle.asl_records.specs.declared.records.Declared as code
 use Rattle.asl_states.specs.Table.{Shows, table_view}
@@ -73,6 +80,12 @@ module _ (shown : Machine) (declared : model.Declared) (rounds : ℕ) where
       let is = inferred-of certificate infers machine shows in
       subst (λ c. IsClosed declared c machine) (sym is.same) (law machine declared rounds is.draft shows.well_named is.settles)
 
+  -- it breaks no rule, where names stand in order
+  pub rules-of : ((machine : Scope) (declared : model.Declared) (rounds : ℕ) (draft : Draft) → IsWellNamed machine → Settles (table_of machine) declared rounds draft → HoldsForDeclared IsOrdered declared → HoldsForCertificate IsOrdered (certificate_of (table_of machine) draft) → findings machine declared (certificate_of (table_of machine) draft) ≡ []) → HoldsForDeclared IsOrdered declared → (certificate : model.Certificate) → Infers (table_view shown) declared rounds certificate → HoldsForCertificate IsOrdered certificate → (machine : Scope) → Shows shown machine → findings machine declared certificate ≡ []
+  rules-of law known certificate infers sure machine shows =
+      let is = inferred-of certificate infers machine shows in
+      subst (λ c. findings machine declared c ≡ []) (sym is.same) (law machine declared rounds is.draft shows.well_named is.settles known (subst (HoldsForCertificate IsOrdered) is.same sure))
+
   end-of : (why : InferRefusal) → Refuses (table_view shown) declared rounds why → (machine : Scope) → Shows shown machine → IsEndOf (table_of machine) declared rounds why
   end-of why refuses machine shows =
       let there : Refuses (table_of machine) declared rounds why = subst (λ t. Refuses t declared rounds why) shows.table refuses in
@@ -93,6 +106,17 @@ module _ (shown : Machine) (declared : model.Declared) (rounds : ℕ) where
       by (refusal.Finding found) h = law machine declared rounds (finding_view found) shows.well_named h
       by refusal.NotSettled h = h.1
       by refusal.OutOfMemory h = tt
+
+-- two facts of one answer
+pub both : {T E : Type 0} (P Q : T → Type 0) (r : Result T E) → IfOk r P → IfOk r Q → IfOk r (λ x. P x × Q x)
+both P Q (Ok x) p q = (p, q)
+both P Q (Err e) p q = tt
+
+-- names stand in order in the shapes of a table
+pub certificate-ordered : (certificate : NumberedCertificate) → ((n : ℕ) → IsProperShape (shape_at certificate.shapes n)) → HoldsForCertificate IsOrdered (numbered_view certificate)
+certificate-ordered certificate proper =
+    let all = certificate_proper certificate proper in
+    both_certificate IsProperShape IsProperShape IsOrdered (λ s h p. proper-ordered s h) (numbered_view certificate) all all
 
 -- ---- what is told stands for some certificate
 

@@ -1,6 +1,6 @@
 // Inferring a certificate, round after round.
 
-ghost use Rattle.std.specs.Prelude.{◌≡◌, ◌≤◌, ℕ, length, IfErr, IfOk};
+ghost use Rattle.std.specs.Prelude.{◌≡◌, ◌≤◌, ℕ, [], length, IfErr, IfOk};
 ghost use Rattle.serde_json.specs.Data.{depth};
 ghost use Rattle.serde_json.specs.Read.{max_depth};
 ghost use Rattle.asl_model.specs.Certificate as certificates;
@@ -10,6 +10,7 @@ ghost use Rattle.asl_model.specs.Json.{value_of};
 ghost use Rattle.asl_model.specs.Machine as machines;
 ghost use Rattle.asl_model.specs.Numbering.{IsWellNamed, table_of};
 ghost use Rattle.asl_model.specs.RecordShapes.{HoldsForCertificate};
+ghost use Rattle.asl_model.specs.Shape.{IsOrdered};
 ghost use Rattle.asl_model.specs.Written.{written_certificate};
 ghost use Rattle.asl_draft_laws.specs.Drafts.{IsInferred, IsTold, first_draft};
 ghost use Rattle.asl_states.specs.Table.{Shows, table_view};
@@ -23,8 +24,8 @@ ghost use Rattle.asl_infer.specs.Rounds.{AreCalm, Infers, IsGivenOf, Refuses};
 
 use crate::declarations::check_tasks;
 use crate::rounds::{Given, Strictness};
-use asl_check::Finding;
-use asl_draft_laws::settled_drafts_are_closed;
+use asl_check::{Finding, names_in_order};
+use asl_draft_laws::{settled_drafts_are_closed, settled_drafts_break_no_rule};
 use asl_drafts::{Draft, Predecessors, Store, Waiting, Walker, order_of};
 use asl_model::inference_laws::a_broken_rule_of_a_state_stands;
 use asl_model::shape_laws::findings_are_exactly_the_broken_rules;
@@ -77,6 +78,8 @@ pub fn infer(
         (certificate_view certificate)) }
     ensures closed { IfOk result (λ certificate. (m : machines.Scope) → Shows machine.now m
         → IsClosed (declared_view declared.now) (certificate_view certificate) m) }
+    ensures no_rule_broken { IfOk result (λ certificate. (m : machines.Scope) → Shows machine.now m
+        → findings.findings m (declared_view declared.now) (certificate_view certificate) ≡ []) }
     ensures shallow { IfOk result (λ certificate.
         depth (value_of (written_certificate (certificate_view certificate))) ≤ max_depth) }
     ensures refused { IfErr result (λ refusal. (m : machines.Scope) → Shows machine.now m
@@ -100,6 +103,8 @@ pub fn infer_numbered(
         (numbered_view certificate)) }
     ensures closed { IfOk result (λ certificate. (m : machines.Scope) → Shows machine.now m
         → IsClosed (declared_view declared.now) (numbered_view certificate) m) }
+    ensures no_rule_broken { IfOk result (λ certificate. (m : machines.Scope) → Shows machine.now m
+        → findings.findings m (declared_view declared.now) (numbered_view certificate) ≡ []) }
     ensures within { IfOk result AreWithin }
     ensures shallow { IfOk result (λ certificate.
         depth (value_of (written_certificate (numbered_view certificate))) ≤ max_depth) }
@@ -109,7 +114,9 @@ pub fn infer_numbered(
         → IsReasonOf (table_of m) (declared_view declared.now) max_rounds refusal) }
 {
     settled_drafts_are_closed();
+    settled_drafts_break_no_rule();
     told_findings_stand();
+    names_in_order(declared);
     settle(alloc, machine, declared, max_rounds)
 }
 
@@ -126,6 +133,8 @@ fn settle(
     ensures within { IfOk result AreWithin }
     ensures shallow { IfOk result
         (λ certificate. HoldsForCertificate IsShallow (numbered_view certificate)) }
+    ensures ordered { IfOk result
+        (λ certificate. HoldsForCertificate IsOrdered (numbered_view certificate)) }
     ensures told { IfErr result
         (Refuses (table_view machine.now) (declared_view declared.now) max_rounds) }
 {
@@ -133,7 +142,9 @@ fn settle(
     check_tasks(alloc, machine, declared, &order)?;
     let (given, mut walker) = begin(alloc, machine, declared, Strictness::Strict, order)?;
     given.take_rounds(max_rounds, &mut walker)?;
-    Ok(walker.draft.certificate(machine)?)
+    let certificate = walker.draft.certificate(machine)?;
+    certificate.shapes.are_proper();
+    Ok(certificate)
 }
 
 /// What is given, and the draft before the first round, for which all states wait. They are walked in that order.

@@ -1,7 +1,7 @@
 use Rattle.std.proofs.lemmas.Result.{IfErr-weaker, IfOk-weaker}
 use Rattle.asl_records.specs.Numbered.{numbered_view}
 use Rattle.asl_records.specs.View.{declared_view}
-use Rattle.asl_infer.proofs.Inferred.{closed-of, inferred-of, reason-of, refusal-of}
+use Rattle.asl_infer.proofs.Inferred.{both, closed-of, inferred-of, reason-of, refusal-of, rules-of}
 use Rattle.asl_infer.proofs.Levels.{written_shallow}
 use Rattle.asl_infer.proofs.inferring.infer_numbered.Goals as goal
 
@@ -10,6 +10,9 @@ returns-clause-inferred c = IfOk-weaker c.settle.result _ _ (λ numbered h. infe
 
 pub returns-clause-closed : goal.returns-clause-closed
 returns-clause-closed c = IfOk-weaker c.settle.result _ _ (λ numbered h. closed-of c.args.machine.now (declared_view c.args.declared.now) c.args.max_rounds c.settled_drafts_are_closed.ensures.closed (numbered_view numbered) h) c.settle.ensures.inferred
+
+pub returns-clause-no_rule_broken : goal.returns-clause-no_rule_broken
+returns-clause-no_rule_broken c = IfOk-weaker c.settle.result _ _ (λ numbered h. rules-of c.args.machine.now (declared_view c.args.declared.now) c.args.max_rounds c.settled_drafts_break_no_rule.ensures.none c.names_in_order.ensures (numbered_view numbered) h.0 h.1) (both _ _ c.settle.result c.settle.ensures.inferred c.settle.ensures.ordered)
 
 pub returns-clause-shallow : goal.returns-clause-shallow
 returns-clause-shallow c = IfOk-weaker c.settle.result _ _ (λ numbered h. written_shallow (numbered_view numbered) h) c.settle.ensures.shallow
