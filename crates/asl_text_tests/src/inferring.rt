@@ -73,7 +73,7 @@ fn verified(alloc: Global, definition: &str, declared: &str, rounds: u32) -> Opt
 fn verdicts_on_what_is_inferred(rt: HostRuntime) {
     let alloc = rt.alloc();
     let third = verified(alloc, PARALLEL, TASKS, 3);
-    assert!(rt; matches!(&third, Some(Verified::Verdict(Verdict::Yes))));
+    assert!(rt; matches!(&third, Some(Verified::Yes)));
     let second = verified(alloc, PARALLEL, TASKS, 2);
     assert!(rt; matches!(&second, Some(Verified::NotSettled)));
     let undeclared = verified(alloc, PARALLEL, r#"{"input":true}"#, 3);

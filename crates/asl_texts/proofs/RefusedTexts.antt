@@ -1,19 +1,34 @@
 -- What a refusal of one text comes to, and of which of the three.
-use Rattle.std.proofs.Common.{ℕ, List, Option, Some, None, option_map}
+use Rattle.std.proofs.Common.{◌≡◌, ℕ, List, Option, Some, None, option_map, refl, sym, subst}
 use Rattle.std.specs.Option.{unwrap_or}
 use Rattle.serde_json.specs.Data.{Data}
 use Rattle.asl_model.specs.Machine.{Scope}
 use Rattle.asl_model.specs.Certificate.{Declared}
 use Rattle.asl_model.specs.StandsFor.{Complaint}
 use Rattle.asl_model.specs.Json.{ReadsAsValue}
-use Rattle.asl_model.specs.Texts.{DefinitionText, DeclaredText, CertificateText, TextFault, NotJson, NotWhole, BadDefinition, BadRecord, BadAnswer, NoMemory, definition_no_json, definition_complaint, declared_no_json, declared_not_whole, declared_complaint, certificate_no_json, certificate_not_whole, certificate_complaint, definition_refused, declared_refused, certificate_refused, ReadsAsMachine, ReadsAsDeclared}
+use Rattle.asl_model.specs.Texts.{Which, DefinitionText, DeclaredText, CertificateText, TextFault, NotJson, NotWhole, BadDefinition, BadRecord, BadAnswer, NoMemory, definition_no_json, definition_complaint, declared_no_json, declared_not_whole, declared_complaint, certificate_no_json, certificate_not_whole, certificate_complaint, definition_refused, declared_refused, certificate_refused, IsNoJson, ReadsAsMachine, ReadsAsDeclared}
 use Rattle.asl_machine.specs.Refusal.{IsRefused as IsRefusedValue, without_memory, for_broken_rule}
 use Rattle.asl_records.specs.Refusal.{IsDeclaredRefusal, IsCertificateRefusal}
 use Rattle.asl_records.specs.declared.refusals.ReadFault.{ReadFault}
 use Rattle.asl_records.specs.declared.refusals.ReadFault.TheVariants as kept
-use Rattle.asl_texts.specs.Verifying.{UnreadableStands, no_json, unread, record_fault_of, RefusesDefinition, definition_fault, definition_no_memory, RefusesDeclared, declared_fault, declared_no_memory, RefusesCertificate, certificate_fault, certificate_no_memory, IsRefused, fault_stands, definition_unread, declared_unread, certificate_unread}
+use Rattle.asl_tree.specs.declared.TreeRefusal.{TreeRefusal}
+use Rattle.asl_tree.specs.declared.TreeRefusal.TheVariants as tree
+use Rattle.asl_texts.specs.View.{which_view, text_fault_view, tree_refusal_view}
+use Rattle.asl_texts.specs.declared.refusals.TextRefusal.{TextRefusal}
+use Rattle.asl_texts.specs.Verifying.{IsRefusedAs, UnreadableStands, no_json, unread, record_fault_of, RefusesDefinition, definition_fault, definition_no_memory, RefusesDeclared, declared_fault, declared_no_memory, RefusesCertificate, certificate_fault, certificate_no_memory, IsRefused, fault_stands, definition_unread, declared_unread, certificate_unread}
+
+-- ---- a refusal of one text
+
+-- what holds of a text that is refused so holds of the refusal
+pub as_told : (P : Which → TextFault → Type 0) (which : Which) (Stands : TextFault → Type 0) (refusal : TextRefusal) → ((f : TextFault) → Stands f → P which f) → IsRefusedAs which Stands refusal → P (which_view refusal.which) (text_fault_view refusal.fault)
+as_told P which Stands refusal turn h = subst (λ w. P w (text_fault_view refusal.fault)) (sym h.0) (turn (text_fault_view refusal.fault) h.1)
 
 -- ---- a text that gives no JSON value
+
+pub unreadable : (text : List ℕ) (refusal : TreeRefusal) → (refusal ≡ tree.NotJson → IsNoJson text) → (refusal ≡ tree.NotWhole → ⊥) → UnreadableStands text (tree_refusal_view refusal)
+unreadable text tree.NotJson none never = no_json (none refl)
+unreadable text tree.NotWhole none never = absurd (never refl)
+unreadable text tree.OutOfMemory none never = unread
 
 pub unread-definition : (text : List ℕ) (f : TextFault) → UnreadableStands text f → RefusesDefinition text f
 unread-definition text NotJson (no_json h) = definition_fault (definition_no_json h)

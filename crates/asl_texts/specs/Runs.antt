@@ -24,7 +24,7 @@ use Rattle.asl_run.specs.declared.driving.Stop.{Stop}
 use Rattle.asl_run.specs.declared.driving.Stop.TheVariants as stops
 use Rattle.asl_tree.specs.View.{view}
 use Rattle.asl_texts.specs.Texts.{AreText, AreTooLong}
-use Rattle.asl_texts.specs.Verifying.{MachineReads, RefusesDefinition, RefusesDeclared}
+use Rattle.asl_texts.specs.Verifying.{IsRefusedAs, MachineReads, RefusesDefinition, RefusesDeclared}
 use Rattle.asl_texts.specs.View.{which_view, text_fault_view}
 use Rattle.asl_texts.specs.Writing.{AppendsFront, Streams}
 use Rattle.asl_texts.specs.declared.given.Given.{Given}
@@ -299,8 +299,7 @@ IsFirstRefused texts AnswersText f = InputReads texts × SourceRefuses texts.ans
 
 -- why known bytes aren't read as answers
 abbrev pub SourceFault : Option (List ℕ) → Bool → RunFault → Type 0
-SourceFault known failed (run.Text refusal) =
-    (which_view refusal.which ≡ AnswersText) × SourceRefuses known (text_fault_view refusal.fault)
+SourceFault known failed (run.Text refusal) = IsRefusedAs AnswersText (SourceRefuses known) refusal
 SourceFault known failed run.TooLong = AreTooLong known
 SourceFault known failed run.Read = IsTrue failed
 SourceFault known failed run.Write = ⊥

@@ -1,8 +1,8 @@
 -- What a definition and declared shapes read as, and why one of them doesn't read.
-use Rattle.std.specs.Prelude.{◌≡◌, ℕ, List, ⊤}
+use Rattle.std.specs.Prelude.{ℕ, List, ⊤}
 use Rattle.asl_model.specs.Texts.{Which, DefinitionText, DeclaredText, CertificateText, InputText, AnswersText, TextFault, ReadsAsDeclared}
 use Rattle.asl_records.specs.View.{declared_view}
-use Rattle.asl_texts.specs.Verifying.{MachineReads, ReadsInto, RefusesDeclared, RefusesDefinition}
+use Rattle.asl_texts.specs.Verifying.{IsRefusedAs, MachineReads, ReadsInto, RefusesDeclared, RefusesDefinition}
 use Rattle.asl_texts.specs.View.{which_view, text_fault_view}
 use Rattle.asl_texts.specs.declared.refusals.RunFault.{RunFault}
 use Rattle.asl_texts.specs.declared.refusals.RunFault.TheVariants as run
@@ -15,8 +15,7 @@ pub record Describes (definition declared : List ℕ) (subject : Subject) : Type
 
 -- why a text is read as no machine: a fault stands in it, or there was no memory
 abbrev pub DefinitionFaultStands : List ℕ → RunFault → Type 0
-DefinitionFaultStands text (run.Text refusal) = (which_view refusal.which ≡ DefinitionText)
-    × RefusesDefinition text (text_fault_view refusal.fault)
+DefinitionFaultStands text (run.Text refusal) = IsRefusedAs DefinitionText (RefusesDefinition text) refusal
 DefinitionFaultStands text run.TooLong = ⊥
 DefinitionFaultStands text run.Read = ⊥
 DefinitionFaultStands text run.Write = ⊥
@@ -24,8 +23,7 @@ DefinitionFaultStands text run.OutOfMemory = ⊤
 
 -- as no declared shapes
 abbrev pub DeclaredFaultStands : List ℕ → RunFault → Type 0
-DeclaredFaultStands text (run.Text refusal) = (which_view refusal.which ≡ DeclaredText)
-    × RefusesDeclared text (text_fault_view refusal.fault)
+DeclaredFaultStands text (run.Text refusal) = IsRefusedAs DeclaredText (RefusesDeclared text) refusal
 DeclaredFaultStands text run.TooLong = ⊥
 DeclaredFaultStands text run.Read = ⊥
 DeclaredFaultStands text run.Write = ⊥

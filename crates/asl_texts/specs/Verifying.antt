@@ -1,5 +1,5 @@
 -- What is said of refused texts, and of the lines that texts are taken from.
-use Rattle.std.specs.Prelude.{ℕ, List, Option, option_map, ⊤}
+use Rattle.std.specs.Prelude.{◌≡◌, ℕ, List, Option, option_map, ⊤}
 use Rattle.std.specs.Option.{unwrap_or}
 use Rattle.asl_model.specs.Machine.{Scope}
 use Rattle.asl_model.specs.Certificate.{Declared}
@@ -12,6 +12,7 @@ use Rattle.asl_records.specs.declared.refusals.ReadFault.TheVariants as kept
 use Rattle.asl_texts.specs.Lines.{AreLines}
 use Rattle.asl_texts.specs.View.{which_view, text_fault_view}
 use Rattle.asl_texts.specs.declared.refusals.RunFault.{RunFault}
+use Rattle.asl_texts.specs.declared.refusals.TextRefusal.{TextRefusal}
 use Rattle.asl_texts.specs.declared.refusals.RunFault.TheVariants as run
 
 -- why a text gives no JSON value: it is no JSON, or there was no memory
@@ -45,6 +46,10 @@ pub data RefusesDeclared (text : List ℕ) : TextFault → Type 0 where
 pub data RefusesCertificate (text : List ℕ) : TextFault → Type 0 where
   certificate_fault : {f : TextFault} → IsCertificateFault text f → RefusesCertificate text f
   certificate_no_memory : RefusesCertificate text NoMemory
+
+-- it is that text which is refused, and so
+abbrev pub IsRefusedAs : Which → (TextFault → Type 0) → TextRefusal → Type 0
+IsRefusedAs which Stands refusal = (which_view refusal.which ≡ which) × Stands (text_fault_view refusal.fault)
 
 -- the text reads as a machine, as declared shapes
 pub record MachineReads (definition : List ℕ) : Type 0 where

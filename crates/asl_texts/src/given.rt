@@ -1,15 +1,16 @@
 //! The texts that a run goes by, read.
 
 ghost use Rattle.std.specs.Prelude.{IsTrue, IfOk, IfErr, OnOk, map, option_map};
+ghost use Rattle.asl_model.specs.Texts.{DeclaredText};
 ghost use Rattle.asl_records.specs.View.{declared_view};
 ghost use Rattle.asl_run.specs.Entries.{answer_view};
 ghost use Rattle.asl_texts.specs.Fronts.{IfAnswersRead, NoFrontIsLong};
 ghost use Rattle.asl_texts.specs.Runs.{GivesFault, IsGiven, ReadsAsShapes, RefusesShapes, SourceFault, SourceReads};
 ghost use Rattle.asl_texts.specs.Runs.{texts_of};
-ghost use Rattle.asl_texts.specs.View.{text_fault_view};
+ghost use Rattle.asl_texts.specs.Verifying.{IsRefusedAs};
 
 use crate::reading::{answers_text, declared_text, machine_text, tree_text};
-use crate::refusals::{RunFault, TextFault, TextRefusal, Which};
+use crate::refusals::{RunFault, TextRefusal, Which};
 use crate::sources::Source;
 use crate::texts::read_text;
 use asl_machine::Machine;
@@ -49,27 +50,9 @@ pub(crate) fn read_given<S: Source>(
         IfErr result (GivesFault texts (S.failed answers.new)) }
     ensures lasting { IsTrue (S.failed answers.old) → IsTrue (S.failed answers.new) }
 {
-    let machine = match machine_text(alloc, definition) {
-        Ok(machine) => machine,
-        Err(fault) => return Err(RunFault::Text(TextRefusal {
-            which: Which::Definition,
-            fault,
-        })),
-    };
-    let declared = match declared_where_given(alloc, declared) {
-        Ok(declared) => declared,
-        Err(fault) => return Err(RunFault::Text(TextRefusal {
-            which: Which::Declared,
-            fault,
-        })),
-    };
-    let input = match tree_text(alloc, input) {
-        Ok(input) => input,
-        Err(fault) => return Err(RunFault::Text(TextRefusal {
-            which: Which::Input,
-            fault,
-        })),
-    };
+    let machine = machine_text(alloc, definition)?;
+    let declared = declared_where_given(alloc, declared)?;
+    let input = tree_text(alloc, Which::Input, input)?;
     let answers = answers_in_source(alloc, answers)?;
     Ok(Given {
         machine,
@@ -80,18 +63,15 @@ pub(crate) fn read_given<S: Source>(
 }
 
 /// The declared shapes that a text stands for, where there is one.
-fn declared_where_given(alloc: Global, text: Option<&[u8]>) -> Result<Option<Declared>, TextFault>
+fn declared_where_given(alloc: Global, text: Option<&[u8]>) -> Result<Option<Declared>, TextRefusal>
     ensures declared { IfOk result (λ declared.
         ReadsAsShapes (option_map (λ t. t.now) text.entry) (option_map declared_view declared)) }
-    ensures refused { IfErr result (λ fault.
-        RefusesShapes (option_map (λ t. t.now) text.entry) (text_fault_view fault)) }
+    ensures refused { IfErr result
+        (IsRefusedAs DeclaredText (RefusesShapes (option_map (λ t. t.now) text.entry))) }
 {
-    let Some(text) = text else {
-        return Ok(None);
-    };
-    match declared_text(alloc, text) {
-        Ok(declared) => Ok(Some(declared)),
-        Err(fault) => Err(fault),
+    match text {
+        Some(text) => Ok(Some(declared_text(alloc, text)?)),
+        None => Ok(None),
     }
 }
 
@@ -106,11 +86,5 @@ fn answers_in_source<S: Source>(alloc: Global, source: &mut S) -> Result<VecDequ
     ensures lasting { IsTrue (S.failed source.old) → IsTrue (S.failed source.new) }
 {
     let text = read_text(alloc, source)?;
-    match answers_text(alloc, &text) {
-        Ok(answers) => Ok(answers),
-        Err(fault) => Err(RunFault::Text(TextRefusal {
-            which: Which::Answers,
-            fault,
-        })),
-    }
+    Ok(answers_text(alloc, &text)?)
 }

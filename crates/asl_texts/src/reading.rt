@@ -4,19 +4,19 @@ ghost use Rattle.std.specs.Prelude.{◌≡◌, map, IfOk, IfErr};
 ghost use Rattle.serde_json.specs.View.{view as json_view};
 ghost use Rattle.asl_model.specs.AnswersSpelling.{ReadsAsAnswers};
 ghost use Rattle.asl_model.specs.Json.{ReadsAsTree, ReadsAsValue};
-ghost use Rattle.asl_model.specs.Texts.{ReadsAsDeclared, ReadsAsCertificate};
+ghost use Rattle.asl_model.specs.Texts.{AnswersText, CertificateText, DeclaredText, DefinitionText, ReadsAsDeclared, ReadsAsCertificate};
 ghost use Rattle.asl_records.specs.Numbered.{AreWithin, numbered_view};
 ghost use Rattle.asl_records.specs.View.{declared_view};
 ghost use Rattle.asl_run.specs.Entries.{answer_view};
 ghost use Rattle.asl_tree.specs.View.{view};
 ghost use Rattle.asl_texts.specs.Answers.{answers_fault_of};
 ghost use Rattle.asl_texts.specs.Runs.{RefusesAnswers, RefusesTree};
-ghost use Rattle.asl_texts.specs.Verifying.{ReadsInto, RefusesDefinition, RefusesDeclared, RefusesCertificate, UnreadableStands, record_fault_of};
-ghost use Rattle.asl_texts.specs.View.{text_fault_view};
+ghost use Rattle.asl_texts.specs.Verifying.{IsRefusedAs, ReadsInto, RefusesDefinition, RefusesDeclared, RefusesCertificate, UnreadableStands, record_fault_of};
+ghost use Rattle.asl_texts.specs.View.{def_refusal_view, text_fault_view, tree_refusal_view, which_view};
 
 use crate::answering::{AnswersRefusal, read_answers};
-use crate::refusals::TextFault;
-use asl_machine::{DefFault, Machine};
+use crate::refusals::{TextFault, TextRefusal, Which};
+use asl_machine::{DefFault, DefRefusal, Machine};
 use asl_records::{Declared, NumberedCertificate, ReadFault, read_declared, read_numbered};
 use asl_run::Answer;
 use asl_tree::{Tree, TreeRefusal};
@@ -25,82 +25,120 @@ use std::alloc::Global;
 use std::collections::VecDeque;
 
 /// The machine that shows the definition which a text stands for.
-pub(crate) fn machine_text(alloc: Global, text: &[u8]) -> Result<Machine, TextFault>
+pub(crate) fn machine_text(alloc: Global, text: &[u8]) -> Result<Machine, TextRefusal>
     ensures machine { IfOk result (λ machine. ReadsInto text.now machine) }
-    ensures refused { IfErr result (λ fault. RefusesDefinition text.now (text_fault_view fault)) }
+    ensures refused { IfErr result (IsRefusedAs DefinitionText (RefusesDefinition text.now)) }
 {
-    let value = json_value(alloc, text)?;
+    let which = Which::Definition;
+    let value = json_value(alloc, which, text)?;
     match asl_machine::read(alloc, &value) {
         Ok(machine) => Ok(machine),
-        Err(refusal) => match refusal.fault {
-            DefFault::OutOfMemory => Err(TextFault::OutOfMemory),
-            _ => Err(TextFault::Def(refusal)),
-        },
+        Err(refusal) => Err(TextRefusal {
+            which,
+            fault: definition_fault(refusal),
+        }),
     }
 }
 
 /// The declared shapes that a text stands for.
-pub(crate) fn declared_text(alloc: Global, text: &[u8]) -> Result<Declared, TextFault>
+pub(crate) fn declared_text(alloc: Global, text: &[u8]) -> Result<Declared, TextRefusal>
     ensures declared { IfOk result (λ declared. ReadsAsDeclared text.now (declared_view declared)) }
-    ensures refused { IfErr result (λ fault. RefusesDeclared text.now (text_fault_view fault)) }
+    ensures refused { IfErr result (IsRefusedAs DeclaredText (RefusesDeclared text.now)) }
 {
-    let value = json_value(alloc, text)?;
+    let which = Which::Declared;
+    let value = json_value(alloc, which, text)?;
     match read_declared(alloc, value) {
         Ok(declared) => Ok(declared),
-        Err(fault) => Err(record_fault(fault)),
+        Err(fault) => Err(TextRefusal {
+            which,
+            fault: record_fault(fault),
+        }),
     }
 }
 
 /// The certificate that a text stands for, its shapes in a table.
-pub(crate) fn certificate_text(alloc: Global, text: &[u8]) -> Result<NumberedCertificate, TextFault>
+pub(crate) fn certificate_text(
+    alloc: Global,
+    text: &[u8],
+) -> Result<NumberedCertificate, TextRefusal>
     ensures certificate { IfOk result
         (λ certificate. ReadsAsCertificate text.now (numbered_view certificate)) }
     ensures within { IfOk result AreWithin }
-    ensures refused { IfErr result (λ fault. RefusesCertificate text.now (text_fault_view fault)) }
+    ensures refused { IfErr result (IsRefusedAs CertificateText (RefusesCertificate text.now)) }
 {
-    let value = json_value(alloc, text)?;
+    let which = Which::Certificate;
+    let value = json_value(alloc, which, text)?;
     match read_numbered(alloc, value) {
         Ok(certificate) => Ok(certificate),
-        Err(fault) => Err(record_fault(fault)),
+        Err(fault) => Err(TextRefusal {
+            which,
+            fault: record_fault(fault),
+        }),
     }
 }
 
-/// The tree that a text reads as.
-pub(crate) fn tree_text(alloc: Global, text: &[u8]) -> Result<Tree, TextFault>
+/// The tree that a text reads as, which is that of an input or of answers.
+pub(crate) fn tree_text(alloc: Global, which: Which, text: &[u8]) -> Result<Tree, TextRefusal>
     ensures tree { IfOk result (λ tree. ReadsAsTree text.now (view tree)) }
-    ensures refused { IfErr result (λ fault. RefusesTree text.now (text_fault_view fault)) }
+    ensures refused { IfErr result (IsRefusedAs (which_view which) (RefusesTree text.now)) }
 {
     match asl_tree::read(alloc, text) {
         Ok(tree) => Ok(tree),
-        Err(TreeRefusal::OutOfMemory) => Err(TextFault::OutOfMemory),
-        Err(TreeRefusal::NotJson) => Err(TextFault::Tree(TreeRefusal::NotJson)),
-        Err(TreeRefusal::NotWhole) => Err(TextFault::Tree(TreeRefusal::NotWhole)),
+        Err(refusal) => Err(TextRefusal {
+            which,
+            fault: tree_fault(refusal),
+        }),
     }
 }
 
 /// The answers that a text reads as.
-pub(crate) fn answers_text(alloc: Global, text: &[u8]) -> Result<VecDeque<Answer>, TextFault>
+pub(crate) fn answers_text(alloc: Global, text: &[u8]) -> Result<VecDeque<Answer>, TextRefusal>
     ensures answers { IfOk result (λ answers.
         ReadsAsAnswers text.now (map answer_view answers.items)) }
-    ensures refused { IfErr result (λ fault. RefusesAnswers text.now (text_fault_view fault)) }
+    ensures refused { IfErr result (IsRefusedAs AnswersText (RefusesAnswers text.now)) }
 {
-    let tree = tree_text(alloc, text)?;
+    let which = Which::Answers;
+    let tree = tree_text(alloc, which, text)?;
     match read_answers(alloc, tree) {
         Ok(answers) => Ok(answers),
-        Err(refusal) => Err(answers_fault(refusal)),
+        Err(refusal) => Err(TextRefusal {
+            which,
+            fault: answers_fault(refusal),
+        }),
     }
 }
 
 /// The JSON value that a text reads as.
-fn json_value(alloc: Global, text: &[u8]) -> Result<Value, TextFault>
+fn json_value(alloc: Global, which: Which, text: &[u8]) -> Result<Value, TextRefusal>
     ensures value { IfOk result (λ value. ReadsAsValue text.now (json_view value)) }
-    ensures refused { IfErr result (λ fault. UnreadableStands text.now (text_fault_view fault)) }
+    ensures refused { IfErr result (IsRefusedAs (which_view which) (UnreadableStands text.now)) }
 {
     match asl_tree::read_value(alloc, text) {
         Ok(value) => Ok(value),
-        Err(TreeRefusal::OutOfMemory) => Err(TextFault::OutOfMemory),
-        Err(TreeRefusal::NotJson) => Err(TextFault::Tree(TreeRefusal::NotJson)),
-        Err(TreeRefusal::NotWhole) => Err(TextFault::Tree(TreeRefusal::NotWhole)),
+        Err(refusal) => Err(TextRefusal {
+            which,
+            fault: tree_fault(refusal),
+        }),
+    }
+}
+
+/// What is wrong with a text that is no definition.
+fn definition_fault(refusal: DefRefusal) -> TextFault
+    ensures { text_fault_view result ≡ def_refusal_view refusal }
+{
+    match refusal.fault {
+        DefFault::OutOfMemory => TextFault::OutOfMemory,
+        _ => TextFault::Def(refusal),
+    }
+}
+
+/// What is wrong with a text that isn't the tree that it should be.
+fn tree_fault(refusal: TreeRefusal) -> TextFault
+    ensures { text_fault_view result ≡ tree_refusal_view refusal }
+{
+    match refusal {
+        TreeRefusal::OutOfMemory => TextFault::OutOfMemory,
+        TreeRefusal::NotJson | TreeRefusal::NotWhole => TextFault::Tree(refusal),
     }
 }
 

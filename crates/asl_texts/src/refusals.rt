@@ -72,6 +72,16 @@ pub enum RunFault {
     OutOfMemory,
 }
 
+impl From<TextRefusal> for RunFault {
+    ghost use Rattle.asl_texts.specs.declared.refusals.RunFault.{RunFault};
+
+    ghost from_gives = { λ refusal fault. fault ≡ RunFault.Text refusal };
+
+    fn from(refusal: TextRefusal) -> RunFault {
+        RunFault::Text(refusal)
+    }
+}
+
 impl<E: WantOfMemory + Drop> From<E> for RunFault {
     ghost use Rattle.asl_texts.specs.declared.refusals.RunFault.{RunFault};
 

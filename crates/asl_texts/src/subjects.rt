@@ -7,7 +7,7 @@ ghost use Rattle.asl_texts.specs.Subjects.{DeclaredFaultStands, DefinitionFaultS
 ghost use Rattle.asl_texts.specs.Verifying.{ReadsInto};
 
 use crate::reading::{declared_text, machine_text};
-use crate::refusals::{RunFault, TextRefusal, Which};
+use crate::refusals::RunFault;
 use asl_machine::Machine;
 use asl_records::Declared;
 use std::alloc::Global;
@@ -39,13 +39,7 @@ pub fn read_definition(alloc: Global, text: &[u8]) -> Result<Machine, RunFault>
     ensures read { IfOk result (ReadsInto text.now) }
     ensures refused { IfErr result (DefinitionFaultStands text.now) }
 {
-    match machine_text(alloc, text) {
-        Ok(machine) => Ok(machine),
-        Err(fault) => Err(RunFault::Text(TextRefusal {
-            which: Which::Definition,
-            fault,
-        })),
-    }
+    Ok(machine_text(alloc, text)?)
 }
 
 /// The declared shapes that a JSON text reads as.
@@ -55,11 +49,5 @@ pub fn read_declared_text(alloc: Global, text: &[u8]) -> Result<Declared, RunFau
     ensures read { IfOk result (λ declared. ReadsAsDeclared text.now (declared_view declared)) }
     ensures refused { IfErr result (DeclaredFaultStands text.now) }
 {
-    match declared_text(alloc, text) {
-        Ok(declared) => Ok(declared),
-        Err(fault) => Err(RunFault::Text(TextRefusal {
-            which: Which::Declared,
-            fault,
-        })),
-    }
+    Ok(declared_text(alloc, text)?)
 }

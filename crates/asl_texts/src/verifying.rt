@@ -54,27 +54,9 @@ pub fn verify_texts(
     ensures refused { IfErr result (λ refusal. IsRefused definition.now declared.now certificate.now
         (which_view refusal.which) (text_fault_view refusal.fault)) }
 {
-    let machine = match machine_text(alloc, definition) {
-        Ok(machine) => machine,
-        Err(fault) => return Err(TextRefusal {
-            which: Which::Definition,
-            fault,
-        }),
-    };
-    let declared = match declared_text(alloc, declared) {
-        Ok(declared) => declared,
-        Err(fault) => return Err(TextRefusal {
-            which: Which::Declared,
-            fault,
-        }),
-    };
-    let mut certificate = match certificate_text(alloc, certificate) {
-        Ok(certificate) => certificate,
-        Err(fault) => return Err(TextRefusal {
-            which: Which::Certificate,
-            fault,
-        }),
-    };
+    let machine = machine_text(alloc, definition)?;
+    let declared = declared_text(alloc, declared)?;
+    let mut certificate = certificate_text(alloc, certificate)?;
     no_broken_rule_means_closed();
     closed_runs_never_fault();
     closed_runs_tell_no_fault();
@@ -119,19 +101,13 @@ pub fn check_lines<R: Source, W: Sink>(
     ensures lasting_write { IsTrue (W.failed sink.old) → IsTrue (W.failed sink.new) }
 {
     let lines = read_lines(alloc, source)?;
-    let verdict = match verify_texts(
+    let verdict = verify_texts(
         alloc,
         &lines.definition,
         &lines.declared,
         &lines.certificate,
-    ) {
-        Ok(verdict) => verdict,
-        Err(refusal) => return Err(RunFault::Text(refusal)),
-    };
-    let text = match verdict_text(alloc, &verdict) {
-        Ok(text) => text,
-        Err(_) => return Err(RunFault::OutOfMemory),
-    };
+    )?;
+    let text = verdict_text(alloc, &verdict)?;
     match write_all(sink, text.as_bytes()) {
         Ok(()) => Ok(verdict),
         Err(_) => Err(RunFault::Write),

@@ -1,7 +1,6 @@
-use Rattle.std.proofs.Common.{subst, sym}
+use Rattle.std.proofs.Common.{refl, sym, subst}
 use Rattle.std.proofs.lemmas.Result.{err_from_is_err_and}
 use Rattle.serde_json.specs.View.{view}
-use Rattle.asl_model.specs.Texts.{TextFault}
 use Rattle.asl_texts.specs.View.{text_fault_view}
 use Rattle.asl_texts.specs.Verifying.{RefusesDeclared}
 use Rattle.asl_texts.proofs.RefusedTexts.{unread-declared, refused-declared}
@@ -10,9 +9,8 @@ use Rattle.asl_texts.proofs.reading.declared_text.Goals as goal
 pub returns-in_err-value-clause-refused : goal.returns-in_err-value-clause-refused
 returns-in_err-value-clause-refused c =
     let p = err_from_is_err_and c.from_residual.result c.from_residual.ensures.1 in
-    rw (p.1, p.2) (unread-declared c.args.text.now (text_fault_view c.in_err-value.field-0.0) c.in_err-value.ensures.refused)
+    let refused = c.in_err-value.ensures.refused in
+    rw (p.1, p.2) (refused.0, unread-declared c.args.text.now (text_fault_view c.in_err-value.field-0.0.fault) refused.1)
 
 pub returns-in-Err-clause-refused : goal.returns-in-Err-clause-refused
-returns-in-Err-clause-refused c =
-    let P : TextFault → Type 0 = λ f. RefusesDeclared c.args.text.now f in
-    subst P (sym c.record_fault.ensures) (refused-declared c.args.text.now (view c.in_ok-value.value) c.in-Err.fault c.in_ok-value.ensures.value c.in-Err.ensures.refused)
+returns-in-Err-clause-refused c = (refl, subst (RefusesDeclared c.args.text.now) (sym c.record_fault.ensures) (refused-declared c.args.text.now (view c.in_ok-value.value) c.in-Err.fault c.in_ok-value.ensures.value c.in-Err.ensures.refused))

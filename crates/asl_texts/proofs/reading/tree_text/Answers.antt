@@ -1,14 +1,9 @@
-use Rattle.std.proofs.Common.{◌∙◌, ap, Err}
-use Rattle.asl_texts.specs.Runs.{tree_no_json, tree_not_whole, tree_no_memory}
+use Rattle.std.proofs.Common.{refl, sym, ap, ◌∙◌, subst, Err}
+use Rattle.asl_texts.specs.Runs.{RefusesTree}
+use Rattle.asl_texts.proofs.RefusedAnswers.{refused_tree}
 use Rattle.asl_texts.proofs.reading.tree_text.Goals as goal
 
-pub returns-in-Err-OutOfMemory-clause-refused : goal.returns-in-Err-OutOfMemory-clause-refused
-returns-in-Err-OutOfMemory-clause-refused c = tree_no_memory
-
-pub returns-in-Err-NotJson-clause-refused : goal.returns-in-Err-NotJson-clause-refused
-returns-in-Err-NotJson-clause-refused c = tree_no_json (c.read.ensures.no_value (c.in-Err-NotJson.is ∙ ap Err c.in-Err-NotJson.field-0-is))
-
-pub returns-in-Err-NotWhole-clause-refused : goal.returns-in-Err-NotWhole-clause-refused
-returns-in-Err-NotWhole-clause-refused c =
-    let found = c.read.ensures.no_tree (c.in-Err-NotWhole.is ∙ ap Err c.in-Err-NotWhole.field-0-is) in
-    tree_not_whole found.1 found.2
+pub returns-in-Err-clause-refused : goal.returns-in-Err-clause-refused
+returns-in-Err-clause-refused c =
+    let read = c.read.ensures in
+    (refl, subst (RefusesTree c.args.text.now) (sym c.tree_fault.ensures) (refused_tree c.args.text.now c.in-Err.refusal (λ e. read.no_value (c.in-Err.is ∙ ap Err e)) (λ e. read.no_tree (c.in-Err.is ∙ ap Err e))))
