@@ -53,8 +53,6 @@ fn verdict_of<R: Files + Input + AllocGlobal>(
     let definition = file_text(rt, files.definition)?;
     let declared = file_text(rt, files.declared)?;
     let certificate = file_text(rt, files.certificate)?;
-    match asl_tool::verify_texts(rt.alloc(), &definition, &declared, &certificate) {
-        Ok(verdict) => Ok(verdict),
-        Err(refusal) => Err(RunFault::Text(refusal)),
-    }
+    let verdict = asl_tool::verify_texts(rt.alloc(), &definition, &declared, &certificate)?;
+    Ok(verdict)
 }

@@ -1,4 +1,4 @@
-//! From files to an inferred certificate, or to the verdict on it, on standard output.
+//! From files to an inferred certificate, or to whether there is one, on standard output.
 
 use asl_command_line::{InferRequest, MachineFiles};
 use asl_files::{ROUNDS, file_text, finish_with, print_line, print_verdict};
@@ -15,7 +15,7 @@ pub(crate) fn infer_files<R: Files + Input + Print + Eprint + AllocGlobal>(
     finish_with(rt, infer_on(rt, request))
 }
 
-/// Infers a certificate of the texts in two files, checks it, writes the verdict to standard output, and gives the exit
+/// Infers a certificate of the texts in two files, writes to standard output whether there is one, and gives the exit
 /// status.
 pub(crate) fn verify_files<R: Files + Input + Print + Eprint + AllocGlobal>(
     rt: &R,
@@ -43,8 +43,8 @@ fn infer_on<R: Files + Input + Print + AllocGlobal>(
     }
 }
 
-/// The check of what is inferred of the texts in two files. Its verdict is written to standard output, or that of the
-/// inference, where it has a finding. Both files are read, the definition first, before a text is looked at.
+/// Whether a certificate is inferred of the texts in two files: yes is written to standard output, or the finding as a
+/// verdict. Both files are read, the definition first, before a text is looked at.
 ///
 /// Refused as by [`infer_on`].
 fn verify_on<R: Files + Input + Print + AllocGlobal>(
@@ -54,7 +54,7 @@ fn verify_on<R: Files + Input + Print + AllocGlobal>(
     let definition = file_text(rt, files.definition)?;
     let declared = file_text(rt, files.declared)?;
     match verify_inferred(rt.alloc(), &definition, &declared, ROUNDS)? {
-        Verified::Verdict(verdict) => tell_verdict(rt, verdict),
+        Verified::Yes => tell_verdict(rt, Verdict::Yes),
         Verified::Finding(finding) => tell_finding(rt, finding),
         Verified::NotSettled => Ok(Closing::NotSettled),
     }

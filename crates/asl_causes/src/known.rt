@@ -131,16 +131,14 @@ fn text_of_state(
     explainer.about_state(shapes, &facts.findings, state)
 }
 
-/// Tells findings of which nothing else is known, each with its example and what generally helps. Refuses only where an
+/// Tells a finding of which nothing else is known, with its example and what generally helps. Refuses only where an
 /// allocation was refused.
-pub fn findings_text_alone(alloc: Global, findings: Vec<Finding>) -> Result<String, OutOfMemory> {
+pub fn finding_text_alone(alloc: Global, finding: Finding) -> Result<String, OutOfMemory> {
     let mut text = String::new(alloc);
-    for finding in findings {
-        let located = Located {
-            finding,
-            path: None,
-        };
-        push_alone(alloc, &mut text, &located)?;
-    }
+    let located = Located {
+        finding,
+        path: None,
+    };
+    push_alone(alloc, &mut text, &located)?;
     Ok(text)
 }

@@ -2,7 +2,7 @@
 //! what usually helps; or what is known of one state.
 //!
 //! [`Known::find`] takes a machine under declared shapes and a certificate, and finds the broken rules and the ways of data.
-//! [`Known::findings_text`] tells every broken rule, [`Known::state_text`] one state. [`findings_text_alone`] tells findings
+//! [`Known::findings_text`] tells every broken rule, [`Known::state_text`] one state. [`finding_text_alone`] tells a finding
 //! of which nothing else is known.
 #![tactic(auto)]
 
@@ -25,4 +25,4 @@ mod there;
 mod walking;
 mod words;
 
-pub use known::{Known, findings_text_alone};
+pub use known::{Known, finding_text_alone};

@@ -89,7 +89,7 @@ finding, and 2 where a text is refused.";
 
 /// What stands below the help of the command `verify`.
 const AFTER_VERIFY_HELP: &str = "\
-It prints yes, or a line for each finding; lint tells all that is wrong at once, and explain why. The
+It prints yes, or one finding; lint tells all that is wrong at once, and explain why. The
 exit status is 0 for a yes, 1 for findings, and 2 where a text is refused.";
 
 /// What stands below the help of the command `run`.
@@ -251,7 +251,7 @@ fn infer_command<'a>(alloc: Global) -> Result<Command<'a>, AllocError> {
 /// The command `verify`.
 fn verify_command<'a>(alloc: Global) -> Result<Command<'a>, AllocError> {
     Command::new(alloc, "verify")
-        .about("Infer a certificate of shapes, check it and print the verdict")
+        .about("Infer a certificate of shapes and print yes, or why there is none")
         .after_help(AFTER_VERIFY_HELP)
         .arg(definition(alloc))?
         .arg(declared(alloc))

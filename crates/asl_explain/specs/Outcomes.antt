@@ -1,9 +1,8 @@
 -- What private clauses say of answers. No public clause cites this module.
-use Rattle.std.specs.Prelude.{◌≡◌, ℕ, List, ⊤}
+use Rattle.std.specs.Prelude.{◌≡◌, ℕ, ⊤}
 use Rattle.asl_model.specs.Certificate.{Certificate, Declared}
 use Rattle.asl_model.specs.Numbering.{Table}
 use Rattle.asl_infer.specs.Lenient.{IsInferredLeniently}
-use Rattle.asl_check.specs.declared.verdicts.Verdict.TheVariants.{Yes, No}
 use Rattle.asl_tool.specs.declared.inferring.Verified.{Verified}
 use Rattle.asl_tool.specs.declared.inferring.Verified.TheVariants as verified
 use Rattle.asl_explain.specs.declared.explaining.Explained.{Explained}
@@ -24,7 +23,6 @@ AreFindings NotSettled = ⊥
 
 -- what is answered for what verifying says
 abbrev pub Answers : Verified → Explained → Type 0
-Answers (verified.Verdict Yes) told = told ≡ Nothing
-Answers (verified.Verdict (No findings)) told = AreFindings told
+Answers verified.Yes told = told ≡ Nothing
 Answers (verified.Finding finding) told = AreFindings told
 Answers verified.NotSettled told = told ≡ NotSettled

@@ -5,22 +5,19 @@ ghost use Rattle.asl_states.specs.Table.{Shows};
 ghost use Rattle.asl_model.specs.Machine.{Scope};
 ghost use Rattle.asl_model.specs.Names.{Bytes};
 ghost use Rattle.asl_model.specs.Numbering.{table_of};
-ghost use Rattle.asl_model.specs.Verdict.{Accepted};
 ghost use Rattle.asl_infer.specs.Lenient.{NeverSettlesLeniently};
 ghost use Rattle.asl_records.specs.View.{declared_view};
 ghost use Rattle.asl_texts.specs.Subjects.{Describes, SubjectFaultStands};
-ghost use Rattle.asl_tool.specs.VerifiedInference.{IsVerdictOnInferred};
-ghost use Rattle.asl_check.specs.declared.verdicts.Verdict.TheVariants as checked;
+ghost use Rattle.asl_tool.specs.VerifiedInference.{IsAcceptedAsInferred};
 ghost use Rattle.asl_tool.specs.declared.inferring.Verified.TheVariants as outcomes;
-ghost use Rattle.asl_texts.specs.declared.refusals.RunFault.TheVariants as faults;
 ghost use Rattle.asl_explain.specs.Answers.{ExplainsFindings, ExplainsState};
 ghost use Rattle.asl_explain.specs.Outcomes.{Answers, AreFindings, SettlesLeniently};
 ghost use Rattle.asl_explain.specs.declared.explaining.Explained.TheVariants as answers;
 
-use asl_causes::{Known, findings_text_alone};
-use asl_check::{Finding, Verdict};
+use asl_causes::{Known, finding_text_alone};
+use asl_check::Finding;
 use asl_infer::infer_leniently;
-use asl_tool::{RunFault, Subject, Verified, read_subject, verify_inferred};
+use asl_tool::{RunFault, Subject, Verified, read_subject, verify_subject};
 use asl_tree::OutOfMemory;
 use std::alloc::Global;
 
@@ -41,16 +38,16 @@ pub enum Explained {
 
 /// Explains each broken rule of a definition under declared shapes, both given as JSON texts, or what is known of one state.
 ///
-/// Without the name of a state there is nothing to explain exactly where [`verify_inferred`] says yes. Otherwise each rule is
-/// told that the certificate breaks which is inferred leniently in at most `max_rounds` rounds, or, where there is none, what
-/// [`verify_inferred`] tells: the line of the finding, what is known of the data with which it arises, the shortest way by
-/// which such data comes there, other origins from which it doesn't arise, an example, and what usually helps; where its
-/// rounds don't settle, that alone is told.
+/// Without the name of a state there is nothing to explain exactly where [`verify_subject`] says yes of what the texts read
+/// as. Where it tells a finding, each rule is told that the certificate breaks which is inferred leniently in at most
+/// `max_rounds` rounds, or that finding, where there is none: the line of the finding, what is known of the data with which
+/// it arises, the shortest way by which such data comes there, other origins from which it doesn't arise, an example, and
+/// what usually helps. Where its rounds don't settle, that alone is told.
 ///
 /// With a name it is told what comes to the state of that name, its shapes, and its findings, by the certificate that is
 /// inferred leniently, or that its rounds don't settle; or that the machine has no such state.
 ///
-/// Refused as by [`verify_inferred`] and [`read_subject`], which refuse the same texts.
+/// Refused as by [`read_subject`], and where an allocation was refused.
 pub fn explain_texts(
     alloc: Global,
     definition: &[u8],
@@ -59,81 +56,64 @@ pub fn explain_texts(
     max_rounds: u32,
 ) -> Result<Explained, RunFault>
     ensures exactly { state.entry ≡ None → IfOk result (λ told. (told ≡ answers.Nothing)
-        ↔ IsVerdictOnInferred max_rounds definition.now declared.now Accepted) }
+        ↔ IsAcceptedAsInferred max_rounds definition.now declared.now) }
     ensures findings { state.entry ≡ None
         → IfOk result (ExplainsFindings max_rounds definition.now declared.now) }
     ensures state { IfSome state.entry (λ name.
         IfOk result (ExplainsState max_rounds definition.now declared.now name.now)) }
     ensures refused { IfErr result (SubjectFaultStands definition.now declared.now) }
 {
+    let subject = read_subject(alloc, definition, declared)?;
     match state {
-        Some(name) => explain_named(alloc, definition, declared, name, max_rounds),
-        None => explain_all(alloc, definition, declared, max_rounds),
+        Some(name) => Ok(explain_state(alloc, &subject, name, max_rounds)?),
+        None => Ok(explain_all(alloc, &subject, max_rounds)?),
     }
 }
 
-/// Tells what is known of the state of that name.
-fn explain_named(
-    alloc: Global,
-    definition: &[u8],
-    declared: &[u8],
-    name: &str,
-    max_rounds: u32,
-) -> Result<Explained, RunFault>
-    ensures state { IfOk result
-        (ExplainsState max_rounds definition.now declared.now name.now) }
-    ensures refused { IfErr result (SubjectFaultStands definition.now declared.now) }
-{
-    let subject = read_subject(alloc, definition, declared)?;
-    Ok(explain_state(alloc, &subject, name, max_rounds)?)
-}
-
 /// Explains each broken rule.
-fn explain_all(
-    alloc: Global,
-    definition: &[u8],
-    declared: &[u8],
-    max_rounds: u32,
-) -> Result<Explained, RunFault>
-    ensures exactly { IfOk result (λ told. (told ≡ answers.Nothing)
-        ↔ IsVerdictOnInferred max_rounds definition.now declared.now Accepted) }
-    ensures findings { IfOk result (ExplainsFindings max_rounds definition.now declared.now) }
-    ensures refused { IfErr result (SubjectFaultStands definition.now declared.now) }
+fn explain_all(alloc: Global, subject: &Subject, max_rounds: u32) -> Result<Explained, OutOfMemory>
+    ensures exactly { (definition declared : Bytes) → Describes definition declared subject.now
+        → IfOk result (λ told. (told ≡ answers.Nothing)
+        ↔ IsAcceptedAsInferred max_rounds definition declared) }
+    ensures findings { (definition declared : Bytes) → Describes definition declared subject.now
+        → IfOk result (ExplainsFindings max_rounds definition declared) }
 {
-    let verified = verify_inferred(alloc, definition, declared, max_rounds)?;
-    let texts = Texts {
-        definition,
-        declared,
-        max_rounds,
-    };
-    explain_verified(alloc, &texts, verified)
+    let verified = verify_subject(alloc, subject, max_rounds)?;
+    explain_verified(alloc, subject, max_rounds, verified)
 }
 
-/// Explains what is told of two texts.
+/// Explains what is said of a machine under declared shapes.
 fn explain_verified(
     alloc: Global,
-    texts: &Texts<'_>,
+    subject: &Subject,
+    max_rounds: u32,
     verified: Verified,
-) -> Result<Explained, RunFault>
+) -> Result<Explained, OutOfMemory>
     ensures exactly { IfOk result (λ told. (told ≡ answers.Nothing)
-        ↔ (verified ≡ outcomes.Verdict checked.Yes)) }
+        ↔ (verified ≡ outcomes.Yes)) }
     ensures answers { IfOk result (Answers verified) }
-    ensures refused { IfErr result (λ fault. fault ≡ faults.OutOfMemory) }
 {
     match verified {
-        Verified::Verdict(Verdict::Yes) => Ok(Explained::Nothing),
-        Verified::Verdict(Verdict::No(findings)) => { Ok(texts.explain_findings(alloc, findings)?) }
-        Verified::Finding(finding) => Ok(texts.explain_finding(alloc, finding)?),
+        Verified::Yes => Ok(Explained::Nothing),
+        Verified::Finding(finding) => explain_finding(alloc, subject, max_rounds, finding),
         Verified::NotSettled => Ok(Explained::NotSettled),
     }
 }
 
-/// Two texts that were read before, and how many rounds are taken at most.
-#[derive(Clone, Copy, Drop)]
-struct Texts<'t> {
-    definition: &'t [u8],
-    declared: &'t [u8],
+/// Explains all findings that are known, or this one, where there are none.
+fn explain_finding(
+    alloc: Global,
+    subject: &Subject,
     max_rounds: u32,
+    finding: Finding,
+) -> Result<Explained, OutOfMemory>
+    ensures { IfOk result AreFindings }
+{
+    let text = match find_known(alloc, subject, max_rounds)? {
+        Some(known) if known.has_findings() => known.findings_text(alloc)?,
+        _ => finding_text_alone(alloc, finding)?,
+    };
+    Ok(Explained::Findings(text))
 }
 
 /// What is known of a machine under declared shapes by the certificate that is inferred leniently; nothing where its rounds
@@ -158,34 +138,6 @@ fn find_known<'s>(
     Ok(Some(Known::find(alloc, machine, declared, certificate)?))
 }
 
-impl Texts<'_> {
-    /// Explains this one finding, or all that are known, if there are some.
-    fn explain_finding(&self, alloc: Global, finding: Finding) -> Result<Explained, OutOfMemory>
-        ensures { IfOk result AreFindings }
-    {
-        let mut findings = Vec::new(alloc);
-        findings.push(finding)?;
-        self.explain_findings(alloc, findings)
-    }
-
-    /// Explains these findings, or all that are known, if there are some.
-    fn explain_findings(
-        &self,
-        alloc: Global,
-        findings: Vec<Finding>,
-    ) -> Result<Explained, OutOfMemory>
-        ensures { IfOk result AreFindings }
-    {
-        // The texts were read before, so that memory alone can refuse them now.
-        let subject = read_subject(alloc, self.definition, self.declared).map_err(|_| OutOfMemory)?;
-        let text = match find_known(alloc, &subject, self.max_rounds)? {
-            Some(known) if known.has_findings() => known.findings_text(alloc)?,
-            _ => findings_text_alone(alloc, findings)?,
-        };
-        Ok(Explained::Findings(text))
-    }
-}
-
 /// Tells what is known of the state of that name, of a machine under declared shapes.
 fn explain_state(
     alloc: Global,
@@ -193,7 +145,7 @@ fn explain_state(
     name: &str,
     max_rounds: u32,
 ) -> Result<Explained, OutOfMemory>
-    ensures { (definition : Bytes) (declared : Bytes) → Describes definition declared subject.now
+    ensures { (definition declared : Bytes) → Describes definition declared subject.now
         → IfOk result (ExplainsState max_rounds definition declared name.now) }
 {
     let Some(state) = subject.machine.state_named(name) else {

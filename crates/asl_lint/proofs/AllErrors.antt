@@ -7,7 +7,7 @@ use Rattle.asl_model.specs.Machine.{Scope}
 use Rattle.asl_model.specs.Names.{Bytes}
 use Rattle.asl_model.specs.StandsFor.{Complaint, complaints}
 use Rattle.asl_lint.specs.Tells as tells
-use Rattle.asl_lint.specs.Tells.{AreBroken, TellsInstead, TellsOfBoth, TellsOfCertificate, TellsOfDeclared, TellsOfDefinition, TellsOfMachine, TellsOfOne, TellsOfTexts, accepted, rejected, leniently, unsettled_leniently, unbroken, inferred, stopped, unsettled, both_read, definition_reads, declared_reads, neither_reads, alone_reads, alone_refused}
+use Rattle.asl_lint.specs.Tells.{AreBroken, TellsInstead, TellsOfBoth, TellsOfDeclared, TellsOfDefinition, TellsOfMachine, TellsOfOne, TellsOfTexts, leniently, unsettled_leniently, unbroken, inferred, stopped, unsettled, both_read, definition_reads, declared_reads, neither_reads, alone_reads, alone_refused}
 use Rattle.asl_problems.specs.Told.{Told, errors_in, is_error, of_complaint, of_finding}
 
 findings_kept : (fs : List Finding) → errors_in (map of_finding fs) ≡ map of_finding fs
@@ -30,17 +30,13 @@ of_declared text told (tells.declared_refused r h) = refl
 of_broken : (machine : Scope) (shapes : Declared) (certified : Certificate) (told : List Told) → AreBroken machine shapes certified told → errors_in told ≡ told
 of_broken machine shapes certified told b = ap errors_in b.each ∙ findings_kept _ ∙ sym b.each
 
-of_certificate : (machine : Scope) (shapes : Declared) (certified : Certificate) (told : List Told) → TellsOfCertificate machine shapes certified told → errors_in told ≡ told
-of_certificate machine shapes certified told (accepted right) = refl
-of_certificate machine shapes certified told (rejected right b) = of_broken machine shapes certified told b
-
 of_instead : (rounds : ℕ) (machine : Scope) (shapes : Declared) (found : Finding) (told : List Told) → TellsInstead rounds machine shapes found told → errors_in told ≡ told
 of_instead rounds machine shapes found told (leniently {certified = certified} i b) = of_broken machine shapes certified told b
 of_instead rounds machine shapes found told (unsettled_leniently never) = refl
 of_instead rounds machine shapes found told (unbroken i none) = refl
 
 of_machine : (rounds : ℕ) (machine : Scope) (shapes : Declared) (told : List Told) → TellsOfMachine rounds machine shapes told → errors_in told ≡ told
-of_machine rounds machine shapes told (inferred {certified = certified} i t) = of_certificate machine shapes certified told t
+of_machine rounds machine shapes told (inferred i right) = refl
 of_machine rounds machine shapes told (stopped {found = found} h o t) = of_instead rounds machine shapes found told t
 of_machine rounds machine shapes told (unsettled never few) = refl
 

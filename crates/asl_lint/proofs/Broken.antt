@@ -1,33 +1,17 @@
--- What the rules that a certificate breaks come to.
-use Rattle.std.proofs.Common.{◌≡◌, ◌≢◌, ℕ, List, [], ◌∷◌, map, Some, refl, sym, ap, ◌∙◌, subst, arith}
+-- What the rules come to that the certificate of lenient rounds breaks.
+use Rattle.std.proofs.Common.{◌≡◌, ◌≢◌, ℕ, List, [], ◌∷◌, map, refl, sym, ap, ◌∙◌, subst}
 use Rattle.asl_model.specs.Certificate.{Certificate, Declared}
 use Rattle.asl_model.specs.Finding.{Finding}
 use Rattle.asl_model.specs.Machine.{Scope}
 use Rattle.asl_model.specs.Numbering.{Table, table_of}
-use Rattle.asl_model.specs.Verdict.{IsRight, Rejected}
-use Rattle.asl_check.specs.Told.{AreFirst, first_of, listed}
+use Rattle.asl_check.specs.Told.{listed}
 use Rattle.asl_infer.specs.Lenient.{IsInferredLeniently, NeverSettlesLeniently}
-use Rattle.asl_lint.specs.Tells.{TellsInstead, TellsOfCertificate, leniently, rejected, unbroken, unsettled_leniently}
+use Rattle.asl_lint.specs.Tells.{TellsInstead, leniently, unbroken, unsettled_leniently}
 use Rattle.asl_problems.specs.Told.{Told, of_finding, told_by}
 use Rattle.asl_problems.specs.declared.problems.Problem.{Problem}
 
--- rules are listed where the first of a name is told
-some_listed : (all told : List Finding) → AreFirst all told → told ≢ [] → all ≡ [] → ⊥
-some_listed all [] are_first some none = some refl
-some_listed all (f ∷ fs) are_first some none =
-    let found : first_of f.state all ≡ Some f = are_first f (0, omega arith, refl) in
-    let nothing : first_of f.state [] ≡ Some f = subst (λ xs. first_of f.state xs ≡ Some f) none found in
-    absurd (cc)
-
 -- what is listed by the table of the machine that is shown
 module _ (table : Table) (machine : Scope) (shapes : Declared) (certified : Certificate) (is : table ≡ table_of machine) where
-  pub rejected_by : (kept : Certificate) (told : List Told) (fs : List Finding) → kept ≡ certified → IsRight machine shapes certified (Rejected fs) → AreFirst (listed table shapes certified) fs → told ≡ map of_finding (listed table shapes kept) → TellsOfCertificate machine shapes certified told
-  rejected_by kept told fs same right are_first each =
-      rejected right (record {
-        some = λ none. some_listed (listed table shapes certified) fs are_first right.some (ap (λ t. listed t shapes certified) is ∙ none);
-        each = each ∙ ap (λ c. map of_finding (listed table shapes c)) same ∙ ap (λ t. map of_finding (listed t shapes certified)) is;
-      })
-
   pub leniently_by : (rounds : ℕ) (found : Finding) (problems : List Problem) → IsInferredLeniently (table_of machine) shapes rounds certified → map told_by problems ≡ map of_finding (listed table shapes certified) → problems ≢ [] → TellsInstead rounds machine shapes found (map told_by problems)
   leniently_by rounds found problems inferred each some =
       let whole : map told_by problems ≡ map of_finding (listed (table_of machine) shapes certified) = each ∙ ap (λ t. map of_finding (listed t shapes certified)) is in

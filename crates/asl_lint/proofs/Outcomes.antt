@@ -3,24 +3,23 @@ use Rattle.std.proofs.Common.{◌≡◌, ◌≢◌, ◌↔◌, ℕ, List, [], �
 use Rattle.std.specs.List.{Contains}
 use Rattle.serde_json.specs.Data.{Data}
 use Rattle.asl_model.specs.Certificate.{Certificate, Declared}
-use Rattle.asl_model.specs.Finding.{Finding, findings}
+use Rattle.asl_model.specs.Finding.{Finding}
 use Rattle.asl_model.specs.Json.{ReadsAsValue}
 use Rattle.asl_model.specs.Machine.{Scope}
 use Rattle.asl_model.specs.Names.{Bytes}
 use Rattle.asl_model.specs.Numbering.{table_of}
 use Rattle.asl_model.specs.StandsFor.{Complaint, complaints}
 use Rattle.asl_model.specs.Texts.{TextFault, NotJson, NotWhole, BadDefinition, BadRecord, IsDeclaredFault, IsDefinitionFault, ReadsAsDeclared, ReadsAsMachine, definition_no_json, definition_complaint, declared_no_json, declared_not_whole, declared_complaint}
-use Rattle.asl_model.specs.Verdict.{Accepted, IsTelling}
-use Rattle.asl_model.proofs.ReadingLaws.{declared_text_has_no_fault, definition_has_no_fault, none_listed, text_has_one_declared, text_has_one_machine}
+use Rattle.asl_model.proofs.ReadingLaws.{declared_text_has_no_fault, definition_has_no_fault, text_has_one_declared, text_has_one_machine}
 use Rattle.asl_draft_laws.specs.Drafts.{IsInferred}
-use Rattle.asl_tool.specs.VerifiedInference.{IsVerdictOnInferred}
+use Rattle.asl_tool.specs.VerifiedInference.{IsAcceptedAsInferred}
 use Rattle.asl_texts.specs.Verifying.{MachineReads}
 use Rattle.asl_lint.specs.Linted as faulty
 use Rattle.asl_lint.specs.Linted.{IsFaulty}
 use Rattle.asl_lint.specs.Tells as tells
-use Rattle.asl_lint.specs.Tells.{AreBroken, TellsOfBoth, TellsOfDeclared, TellsOfDefinition, TellsOfMachine, TellsOfOne, TellsOfCertificate, TellsInstead, accepted, rejected, leniently, unsettled_leniently, unbroken, inferred, stopped, unsettled, both_read, definition_reads, declared_reads, neither_reads, alone_reads, alone_refused}
+use Rattle.asl_lint.specs.Tells.{AreBroken, TellsOfBoth, TellsOfDeclared, TellsOfDefinition, TellsOfMachine, TellsOfOne, TellsInstead, leniently, unsettled_leniently, unbroken, inferred, stopped, unsettled, both_read, definition_reads, declared_reads, neither_reads, alone_reads, alone_refused}
 use Rattle.asl_problems.specs.Told.{Told, of_complaint, of_finding}
-use Rattle.asl_draft_laws.proofs.OneAnswer.{inferred_once, nothing_told, settles}
+use Rattle.asl_draft_laws.proofs.OneAnswer.{nothing_told, settles}
 
 -- the first one is contained
 first : {A : Type 0} (x : A) (xs : List A) → Contains (x ∷ xs) x
@@ -82,52 +81,33 @@ one_text definition told (alone_refused t) =
 some_told : (machine : Scope) (shapes : Declared) (certified : Certificate) (told : List Told) → AreBroken machine shapes certified told → told ≡ [] → ⊥
 some_told machine shapes certified told b e = b.some (map_none of_finding _ (sym b.each ∙ e))
 
--- a right verdict with findings is no yes
-some_broken : (machine : Scope) (shapes : Declared) (certified : Certificate) (fs : List Finding) → IsTelling machine shapes certified fs → findings machine shapes certified ≡ [] → ⊥
-some_broken machine shapes certified [] telling none = telling.some refl
-some_broken machine shapes certified (f ∷ fs) telling none = none_listed (findings machine shapes certified) f none (telling.standing f (first f fs))
-
 module _ (rounds : ℕ) (definition declared : Bytes) (machine : Scope) (shapes : Declared) (as_machine : ReadsAsMachine definition machine) (as_declared : ReadsAsDeclared declared shapes) where
-  -- where nothing is told, verifying says yes
-  yes_by : (certified : Certificate) (told : List Told) → IsInferred (table_of machine) shapes rounds certified → TellsOfCertificate machine shapes certified told → told ≡ [] → IsVerdictOnInferred rounds definition declared Accepted
-  yes_by certified told i (accepted right) e = record { machine = machine; shapes = shapes; certified = certified; as_machine = as_machine; as_declared = as_declared; inferred = i; right = right }
-  yes_by certified told i (rejected right b) e = absurd (some_told machine shapes certified told b e)
-
   some_instead : (found : Finding) (told : List Told) → TellsInstead rounds machine shapes found told → told ≡ [] → ⊥
   some_instead found told (leniently {certified = certified} i b) e = some_told machine shapes certified told b e
   some_instead found told (unsettled_leniently never) e = absurd (cc)
   some_instead found told (unbroken i none) e = absurd (cc)
 
-  yes : (told : List Told) → TellsOfMachine rounds machine shapes told → told ≡ [] → IsVerdictOnInferred rounds definition declared Accepted
-  yes told (inferred i t) e = yes_by _ told i t e
+  -- where nothing is told, verifying says yes
+  yes : (told : List Told) → TellsOfMachine rounds machine shapes told → told ≡ [] → IsAcceptedAsInferred rounds definition declared
+  yes told (inferred i right) e = record { machine = machine; shapes = shapes; certified = _; as_machine = as_machine; as_declared = as_declared; inferred = i; right = right }
   yes told (stopped {found = found} h o t) e = absurd (some_instead found told t e)
   yes told (unsettled never few) e = absurd (cc)
 
   -- where something is told, it says another thing
-  other_by : (certified : Certificate) (told : List Told) → IsInferred (table_of machine) shapes rounds certified → TellsOfCertificate machine shapes certified told → told ≢ [] → IsFaulty rounds definition declared
-  other_by certified told i (accepted right) some = absurd (some refl)
-  other_by certified told i (rejected right b) some = faulty.no (record { machine = machine; shapes = shapes; certified = certified; as_machine = as_machine; as_declared = as_declared; inferred = i; right = right })
-
   other : (told : List Told) → TellsOfMachine rounds machine shapes told → told ≢ [] → IsFaulty rounds definition declared
-  other told (inferred i t) some = other_by _ told i t some
+  other told (inferred i right) some = absurd (some refl)
   other told (stopped h o t) some = faulty.finding (record { machine = machine; shapes = shapes; as_machine = as_machine; as_declared = as_declared; told = h; finding = o })
   other told (unsettled never few) some = faulty.unsettled (record { machine = machine; shapes = shapes; as_machine = as_machine; as_declared = as_declared; changes = never; few = few })
 
--- where no rule of the certificate that is inferred is broken, nothing is told
-none_told_by : (machine : Scope) (shapes : Declared) (certified : Certificate) (told : List Told) → findings machine shapes certified ≡ [] → TellsOfCertificate machine shapes certified told → told ≡ []
-none_told_by machine shapes certified told right (accepted also) = refl
-none_told_by machine shapes certified told right (rejected also b) = absurd (some_broken machine shapes certified _ also right)
-
-none_told : (rounds : ℕ) (machine : Scope) (shapes : Declared) (certified : Certificate) (told : List Told) → IsInferred (table_of machine) shapes rounds certified → findings machine shapes certified ≡ [] → TellsOfMachine rounds machine shapes told → told ≡ []
-none_told rounds machine shapes certified told i right (inferred {certified = also} j t) =
-    let same = inferred_once (table_of machine) shapes rounds certified also i j in
-    none_told_by machine shapes also told (subst (λ c. findings machine shapes c ≡ []) same right) t
-none_told rounds machine shapes certified told i right (stopped {found = found} h o t) = absurd (nothing_told (table_of machine) shapes rounds certified found i h)
-none_told rounds machine shapes certified told i right (unsettled never few) = absurd (settles (table_of machine) shapes rounds certified i never)
+-- where a certificate is inferred, nothing is told
+none_told : (rounds : ℕ) (machine : Scope) (shapes : Declared) (certified : Certificate) (told : List Told) → IsInferred (table_of machine) shapes rounds certified → TellsOfMachine rounds machine shapes told → told ≡ []
+none_told rounds machine shapes certified told i (inferred j right) = refl
+none_told rounds machine shapes certified told i (stopped {found = found} h o t) = absurd (nothing_told (table_of machine) shapes rounds certified found i h)
+none_told rounds machine shapes certified told i (unsettled never few) = absurd (settles (table_of machine) shapes rounds certified i never)
 
 -- ---- both texts
 
-pub yes_where_none : (rounds : ℕ) (definition declared : Bytes) (told : List Told) → TellsOfBoth rounds definition declared told → told ≡ [] → IsVerdictOnInferred rounds definition declared Accepted
+pub yes_where_none : (rounds : ℕ) (definition declared : Bytes) (told : List Told) → TellsOfBoth rounds definition declared told → told ≡ [] → IsAcceptedAsInferred rounds definition declared
 yes_where_none rounds definition declared told (both_read m d t) e = yes rounds definition declared _ _ m d told t e
 yes_where_none rounds definition declared told (definition_reads m t) e = absurd (cc)
 yes_where_none rounds definition declared told (declared_reads t d) e = absurd (definition_told definition told t e)
@@ -139,13 +119,12 @@ other_where_some rounds definition declared told (definition_reads m t) some = f
 other_where_some rounds definition declared told (declared_reads t d) some = faulty.bad_definition (definition_fault definition told t).1
 other_where_some rounds definition declared told (neither_reads t u) some = faulty.bad_definition (definition_fault definition _ t).1
 
-pub none_where_yes : (rounds : ℕ) (definition declared : Bytes) (told : List Told) → TellsOfBoth rounds definition declared told → IsVerdictOnInferred rounds definition declared Accepted → told ≡ []
+pub none_where_yes : (rounds : ℕ) (definition declared : Bytes) (told : List Told) → TellsOfBoth rounds definition declared told → IsAcceptedAsInferred rounds definition declared → told ≡ []
 none_where_yes rounds definition declared told (both_read m d t) v =
     let one : v.machine ≡ _ = text_has_one_machine definition v.machine _ v.as_machine m in
     let same : v.shapes ≡ _ = text_has_one_declared declared v.shapes _ v.as_declared d in
     let inferred = subst (λ s. IsInferred (table_of _) s rounds v.certified) same (subst (λ x. IsInferred (table_of x) v.shapes rounds v.certified) one v.inferred) in
-    let right = subst (λ s. findings _ s v.certified ≡ []) same (subst (λ x. findings x v.shapes v.certified ≡ []) one v.right) in
-    none_told rounds _ _ v.certified told inferred right t
+    none_told rounds _ _ v.certified told inferred t
 none_where_yes rounds definition declared told (definition_reads m t) v = absurd (declared_unread declared _ v.shapes t v.as_declared)
 none_where_yes rounds definition declared told (declared_reads t d) v = absurd (definition_unread definition told v.machine t v.as_machine)
 none_where_yes rounds definition declared told (neither_reads t u) v = absurd (definition_unread definition _ v.machine t v.as_machine)

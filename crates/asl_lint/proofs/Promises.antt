@@ -2,9 +2,8 @@
 use Rattle.std.proofs.Common.{◌≡◌, ◌≢◌, ◌↔◌, ℕ, List, [], Option, Some, None, true, false, sym, ◌∙◌}
 use Rattle.std.specs.List.{list_any}
 use Rattle.asl_model.specs.Names.{Bytes}
-use Rattle.asl_model.specs.Verdict.{Accepted}
 use Rattle.asl_texts.proofs.Promises.{Certified, Quiet, Unbroken}
-use Rattle.asl_tool.specs.VerifiedInference.{IsVerdictOnInferred, NeverFaultsAsInferred}
+use Rattle.asl_tool.specs.VerifiedInference.{IsAcceptedAsInferred, NeverFaultsAsInferred}
 use Rattle.asl_texts.specs.Verifying.{MachineReads}
 use Rattle.asl_diagnostics.specs.declared.Diagnostic.{Diagnostic}
 use Rattle.asl_lint.specs.Linted.{IsFaulty, Tells, WhereDeclared, WhereUndeclared, text_of}
@@ -14,7 +13,7 @@ use Rattle.asl_lint.proofs.Errors.{any_in_order, none_kept, none_met, some_kept}
 use Rattle.asl_lint.proofs.Outcomes.{none_where_yes, one_text, other_where_some, yes_where_none}
 
 -- a yes promises that no run faults
-never_faults : Unbroken → Quiet → Certified → (rounds : ℕ) (definition declared : Bytes) → IsVerdictOnInferred rounds definition declared Accepted → NeverFaultsAsInferred rounds definition declared
+never_faults : Unbroken → Quiet → Certified → (rounds : ℕ) (definition declared : Bytes) → IsAcceptedAsInferred rounds definition declared → NeverFaultsAsInferred rounds definition declared
 never_faults unbroken quiet certified rounds definition declared v =
     let closed = unbroken v.machine v.shapes v.certified v.right in
     record {
@@ -45,7 +44,7 @@ none_of_these rounds definition declared ds t none = sym (same_errors t.all ds r
 
 -- ---- the clauses
 
-pub exactly : (rounds : ℕ) (definition : Bytes) (declared : Option File) (ds : List Diagnostic) → Tells rounds definition (text_of declared) ds → WhereDeclared (λ text. (has_error ds ≡ false) ↔ IsVerdictOnInferred rounds definition text Accepted) declared
+pub exactly : (rounds : ℕ) (definition : Bytes) (declared : Option File) (ds : List Diagnostic) → Tells rounds definition (text_of declared) ds → WhereDeclared (λ text. (has_error ds ≡ false) ↔ IsAcceptedAsInferred rounds definition text) declared
 exactly rounds definition None ds t = tt
 exactly rounds definition (Some file) ds t =
     let text = file.text.now in (

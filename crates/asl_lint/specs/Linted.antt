@@ -1,13 +1,10 @@
 -- What the diagnostics of a definition and of declared shapes promise.
-use Rattle.std.specs.Prelude.{◌≡◌, ◌↔◌, ℕ, List, map, Option, Some, None, Bool, true, bytes_eq, codes, option_map, ⊤}
-use Rattle.std.specs.List.{list_any}
+use Rattle.std.specs.Prelude.{ℕ, List, map, Option, Some, None, Bool, bytes_eq, codes, option_map, ⊤}
 use Rattle.std.specs.List.Sorted.{IsPermutation}
 use Rattle.asl_model.specs.Finding.{Finding}
 use Rattle.asl_model.specs.Names.{Bytes}
 use Rattle.asl_model.specs.Texts.{TextFault, IsDeclaredFault, IsDefinitionFault}
-use Rattle.asl_model.specs.Verdict as verdict
 use Rattle.asl_tool.specs.Inferred.{AreFewRounds, IsFindingOn}
-use Rattle.asl_tool.specs.VerifiedInference.{IsVerdictOnInferred}
 use Rattle.asl_diagnostics.specs.declared.Diagnostic.{Diagnostic}
 use Rattle.asl_lint.specs.Tells.{TellsOfTexts}
 use Rattle.asl_problems.specs.Told.{Told, errors_in, told_of}
@@ -36,8 +33,6 @@ WhereUndeclared promise (Some file) = ⊤
 pub data IsFaulty (rounds : ℕ) (definition declared : Bytes) : Type 0 where
   bad_definition : {f : TextFault} → IsDefinitionFault definition f → IsFaulty rounds definition declared
   bad_declared : {f : TextFault} → IsDeclaredFault declared f → IsFaulty rounds definition declared
-  no : {told : List Finding} → IsVerdictOnInferred rounds definition declared (verdict.Rejected told)
-      → IsFaulty rounds definition declared
   finding : {found : Finding} → IsFindingOn rounds definition declared found → IsFaulty rounds definition declared
   unsettled : AreFewRounds definition declared rounds → IsFaulty rounds definition declared
 

@@ -10,7 +10,7 @@ use Rattle.asl_model.specs.Numbering.{table_of}
 use Rattle.asl_model.specs.Records.{RecordComplaint, HasDeclaredFault}
 use Rattle.asl_model.specs.StandsFor.{complaints}
 use Rattle.asl_model.specs.Texts.{IsNoJson, ReadsAsDeclared, ReadsAsMachine}
-use Rattle.asl_model.specs.Verdict.{Accepted, IsRight, Rejected}
+use Rattle.asl_model.specs.Verdict.{Accepted, IsRight}
 use Rattle.asl_draft_laws.specs.Drafts.{IsInferred, IsTold, NeverSettles}
 use Rattle.asl_check.specs.Told.{listed}
 use Rattle.asl_infer.specs.Inferring.{IsOfMachine, certified_shapes}
@@ -35,13 +35,6 @@ pub record AreBroken (machine : Scope) (shapes : Declared) (certified : Certific
   pub some : listed (table_of machine) shapes certified ≢ []
   pub each : told ≡ map of_finding (listed (table_of machine) shapes certified)
 
--- of a machine by a certificate that is inferred: nothing where no rule is broken, or each broken rule
-pub data TellsOfCertificate (machine : Scope) (shapes : Declared) (certified : Certificate) : List Told → Type 0
-  where
-    accepted : IsRight machine shapes certified Accepted → TellsOfCertificate machine shapes certified []
-    rejected : {findings : List Finding} {told : List Told} → IsRight machine shapes certified (Rejected findings)
-        → AreBroken machine shapes certified told → TellsOfCertificate machine shapes certified told
-
 -- of a machine where the rounds tell a finding instead: each rule that the certificate of lenient rounds breaks; or that
 -- finding, where they come to no certificate, or to one that breaks none
 pub data TellsInstead (rounds : ℕ) (machine : Scope) (shapes : Declared) (found : Finding) : List Told → Type 0 where
@@ -54,10 +47,10 @@ pub data TellsInstead (rounds : ℕ) (machine : Scope) (shapes : Declared) (foun
       → listed (table_of machine) shapes certified ≡ []
       → TellsInstead rounds machine shapes found (of_finding found ∷ [])
 
--- of a machine and declared shapes, for so many rounds
+-- of a machine and declared shapes, for so many rounds: nothing where a certificate is inferred, which breaks no rule
 pub data TellsOfMachine (rounds : ℕ) (machine : Scope) (shapes : Declared) : List Told → Type 0 where
-  inferred : {certified : Certificate} {told : List Told} → IsInferred (table_of machine) shapes rounds certified
-      → TellsOfCertificate machine shapes certified told → TellsOfMachine rounds machine shapes told
+  inferred : {certified : Certificate} → IsInferred (table_of machine) shapes rounds certified
+      → IsRight machine shapes certified Accepted → TellsOfMachine rounds machine shapes []
   stopped : {found : Finding} {told : List Told} → IsTold (table_of machine) shapes rounds found
       → IsOfMachine machine shapes found → TellsInstead rounds machine shapes found told
       → TellsOfMachine rounds machine shapes told

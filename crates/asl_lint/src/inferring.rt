@@ -6,10 +6,10 @@ ghost use Rattle.asl_records.specs.Numbered.{AreWithin, numbered_view};
 ghost use Rattle.asl_records.specs.View.{declared_view};
 ghost use Rattle.asl_check.specs.Told.{listed};
 ghost use Rattle.asl_check.specs.View.{finding_view};
-ghost use Rattle.asl_lint.specs.Tells.{TellsInstead, TellsOfCertificate, TellsOfMachine};
+ghost use Rattle.asl_lint.specs.Tells.{TellsInstead, TellsOfMachine};
 ghost use Rattle.asl_problems.specs.Told.{of_finding, told_by};
 
-use asl_check::{Finding, Verdict, check_numbered, find_all};
+use asl_check::{Finding, find_all};
 use asl_infer::{InferRefusal, infer_leniently, infer_numbered};
 use asl_machine::Machine;
 use asl_problems::{Problem, problems_of_findings};
@@ -40,9 +40,9 @@ impl Judged {
     }
 }
 
-/// What is wrong with a machine under declared shapes: each rule that the certificate breaks which is inferred in at most
-/// `max_rounds` rounds. Where the inference tells a finding instead, each rule that the certificate of lenient rounds
-/// breaks, or that finding where there is no such certificate or it breaks none. Where the shapes don't settle, that.
+/// What is wrong with a machine under declared shapes: nothing where a certificate is inferred in at most `max_rounds`
+/// rounds, since it breaks no rule. Where the inference tells a finding instead, each rule that the certificate of lenient
+/// rounds breaks, or that finding where there is no such certificate or it breaks none. Where the shapes don't settle, that.
 pub(crate) fn judge(
     alloc: Global,
     machine: &Machine,
@@ -55,55 +55,15 @@ pub(crate) fn judge(
     ensures within { IfOk result (λ judged. IfSome judged.certificate AreWithin) }
 {
     match infer_numbered(alloc, machine, declared, max_rounds) {
-        Ok(certificate) => judge_by(alloc, machine, declared, certificate),
+        Ok(certificate) => Ok(Judged {
+            problems: Vec::new(alloc),
+            certificate: Some(certificate),
+        }),
         Err(InferRefusal::Finding(finding)) => {
             judge_leniently(alloc, machine, declared, max_rounds, finding)
         }
         Err(InferRefusal::NotSettled) => Judged::alone(alloc, Problem::not_settled()),
         Err(InferRefusal::OutOfMemory) => Err(OutOfMemory),
-    }
-}
-
-/// What is wrong by a certificate.
-fn judge_by(
-    alloc: Global,
-    machine: &Machine,
-    declared: &Declared,
-    mut certificate: NumberedCertificate,
-) -> Result<Judged, OutOfMemory>
-    requires within { AreWithin certificate }
-    ensures told { IfOk result (λ judged. (m : Scope) → Shows machine.now m
-        → TellsOfCertificate m (declared_view declared.now) (numbered_view certificate)
-        (map told_by judged.problems.items)) }
-    ensures within { IfOk result (λ judged. IfSome judged.certificate AreWithin) }
-{
-    let problems = checked_rules(alloc, machine, declared, &mut certificate)?;
-    Ok(Judged {
-        problems,
-        certificate: Some(certificate),
-    })
-}
-
-/// Every rule that the certificate breaks, by what the checker says of it.
-fn checked_rules(
-    alloc: Global,
-    machine: &Machine,
-    declared: &Declared,
-    certificate: &mut NumberedCertificate,
-) -> Result<Vec<Problem>, OutOfMemory>
-    requires within { AreWithin certificate.old }
-    ensures told { IfOk result (λ problems. (m : Scope) → Shows machine.now m
-        → TellsOfCertificate m (declared_view declared.now) (numbered_view certificate.old)
-        (map told_by problems.items)) }
-    ensures within { AreWithin certificate.new }
-{
-    let verdict = check_numbered(alloc, machine, declared, certificate)?;
-    match verdict {
-        Verdict::Yes => Ok(Vec::new(alloc)),
-        Verdict::No(first) => {
-            drop(first);
-            broken_rules(alloc, machine, declared, certificate)
-        }
     }
 }
 

@@ -1,8 +1,7 @@
 //! From texts to diagnostics.
 ghost use Rattle.std.specs.Prelude.{◌≡◌, ◌↔◌, IfOk, false, map, not, option_map, true};
 ghost use Rattle.std.specs.List.{list_any};
-ghost use Rattle.asl_model.specs.Verdict.{Accepted};
-ghost use Rattle.asl_tool.specs.VerifiedInference.{IsVerdictOnInferred, NeverFaultsAsInferred};
+ghost use Rattle.asl_tool.specs.VerifiedInference.{IsAcceptedAsInferred, NeverFaultsAsInferred};
 ghost use Rattle.asl_texts.specs.Verifying.{MachineReads};
 ghost use Rattle.asl_lint.specs.Linted.{IsFaulty, Tells, WhereDeclared, WhereUndeclared, tells_no_json, text_of};
 ghost use Rattle.asl_problems.specs.Told.{has_error};
@@ -27,11 +26,11 @@ pub struct Linted {
 /// What is told of a definition, and of declared shapes where they are given.
 ///
 /// A text that is no JSON is one error, where it breaks. A definition that is refused has an error for each of its
-/// complaints, declared shapes that are refused have one. Where both texts read, each rule is told that the certificate
-/// breaks which is inferred in at most `max_rounds` rounds; where the inference tells a finding instead, each rule that the
-/// certificate of lenient rounds breaks, or that finding; where the shapes don't settle, that. Warnings come to these, of
-/// what breaks no rule and is hardly meant; without declared shapes only those that the machine itself tells. All of it
-/// stands in the order of its places.
+/// complaints, declared shapes that are refused have one. Where both texts read, and the inference tells a finding in at most
+/// `max_rounds` rounds, each rule is told that the certificate of lenient rounds breaks, or that finding; where the shapes
+/// don't settle, that; and no error where a certificate is inferred, since it breaks no rule. Warnings come to these, of what
+/// breaks no rule and is hardly meant; without declared shapes only those that the machine itself tells. All of it stands in
+/// the order of its places.
 ///
 /// With declared shapes no error is told exactly where [`asl_tool::verify_inferred`] says yes. Then for every input of the
 /// declared shape and every list of moves and task answers, branches and iterations interleaved in any way, each answer a
@@ -50,7 +49,7 @@ pub fn lint<'f>(
         (text_of declared.entry) linted.diagnostics.items) }
     ensures exactly { IfOk result (λ linted. WhereDeclared
         (λ text. (has_error linted.diagnostics.items ≡ false)
-        ↔ IsVerdictOnInferred max_rounds definition.entry.text.now text Accepted) declared.entry) }
+        ↔ IsAcceptedAsInferred max_rounds definition.entry.text.now text) declared.entry) }
     ensures headline { IfOk result (λ linted. has_error linted.diagnostics.items ≡ false
         → WhereDeclared (NeverFaultsAsInferred max_rounds definition.entry.text.now)
         declared.entry) }

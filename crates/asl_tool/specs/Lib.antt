@@ -1,3 +1,2 @@
-pub mod FirstTold
 pub mod Inferred
 pub mod VerifiedInference

@@ -1,17 +1,17 @@
-//! From a definition and declared shapes, given as texts, to the text of a certificate, or to the verdict on it.
+//! From a definition and declared shapes, given as texts, to the text of a certificate, or to whether there is one.
 
 ghost use Rattle.std.specs.Prelude.{IfOk, IfErr};
-ghost use Rattle.asl_model.specs.Headline.{WhereAccepted};
-ghost use Rattle.asl_texts.specs.Subjects.{SubjectFaultStands};
-ghost use Rattle.asl_tool.specs.FirstTold.{TellsFirstOnInferred, TellsFirstOnWritten};
+ghost use Rattle.asl_model.specs.Names.{Bytes};
+ghost use Rattle.asl_texts.specs.Subjects.{Describes, SubjectFaultStands};
 ghost use Rattle.asl_tool.specs.Inferred.{AreFewRounds, IsFindingOn, IsWrittenFor, WhereCertificate, WhereFinding, WhereNotSettled};
-ghost use Rattle.asl_tool.specs.VerifiedInference.{IsVerdictOnInferred, IsVerdictOnWritten, NeverFaultsAsInferred, Tells, WhereVerdict};
+ghost use Rattle.asl_tool.specs.VerifiedInference.{IsAcceptedAsInferred, IsAcceptedAsWritten, NeverFaultsAsInferred, Tells, WhereYes};
 
-use asl_check::{Finding, Verdict, check_numbered};
+use asl_check::Finding;
 use asl_infer::{InferRefusal, infer_numbered};
 use asl_model::reading_laws::texts_have_one_meaning;
 use asl_model::run_laws::{closed_runs_never_fault, closed_runs_tell_no_fault};
-use asl_texts::{RunFault, read_subject, text_of_certificate};
+use asl_texts::{RunFault, Subject, read_subject, text_of_certificate};
+use asl_tree::OutOfMemory;
 use std::alloc::Global;
 
 /// What is inferred of a machine and its declared shapes.
@@ -59,26 +59,23 @@ pub fn infer_texts(
         Err(InferRefusal::NotSettled) => return Ok(Inferred::NotSettled),
         Err(InferRefusal::OutOfMemory) => return Err(RunFault::OutOfMemory),
     };
-    match text_of_certificate(alloc, &certificate, numbered) {
-        Ok(text) => Ok(Inferred::Certificate(text)),
-        Err(_) => Err(RunFault::OutOfMemory),
-    }
+    let text = text_of_certificate(alloc, &certificate, numbered)?;
+    Ok(Inferred::Certificate(text))
 }
 
-/// What is told of a certificate that is inferred.
+/// What is told of a definition under declared shapes by the certificate that is inferred.
 #[derive(Drop)]
 pub enum Verified {
-    /// The verdict on it.
-    Verdict(Verdict),
+    /// A certificate is inferred, and none of the checker's rules is broken.
+    Yes,
     /// A rule that is about the machine or about what is declared is broken for some certificate, so there is none.
     Finding(Finding),
     /// Some shape still changed in the last round, so there is none.
     NotSettled,
 }
 
-/// Infers a certificate of a definition and declared shapes, both given as JSON texts, in at most `max_rounds` rounds, and
-/// checks it: the verdict is right for the certificate that the text of [`infer_texts`] reads as, in the sense in which
-/// that of [`verify_texts`](crate::verify_texts) on this text is, and its findings are those which that one tells.
+/// Whether a certificate is inferred of a definition and declared shapes, both given as JSON texts, in at most `max_rounds`
+/// rounds: [`verify_subject`] of what they read as.
 ///
 /// Where it is yes, then for every input of the declared shape and every list of moves and task answers, branches and
 /// iterations interleaved in any way, each answer a failure or of its declared shape, the run raises none of the six
@@ -91,35 +88,50 @@ pub fn verify_inferred(
     declared: &[u8],
     max_rounds: u32,
 ) -> Result<Verified, RunFault>
-    ensures verdict { IfOk result
-        (WhereVerdict (IsVerdictOnInferred max_rounds definition.now declared.now)) }
+    ensures yes { IfOk result
+        (WhereYes (IsAcceptedAsInferred max_rounds definition.now declared.now)) }
     ensures on_texts { IfOk result
-        (WhereVerdict (IsVerdictOnWritten max_rounds definition.now declared.now)) }
-    ensures first { IfOk result
-        (WhereVerdict (TellsFirstOnInferred max_rounds definition.now declared.now)) }
-    ensures first_on_texts { IfOk result
-        (WhereVerdict (TellsFirstOnWritten max_rounds definition.now declared.now)) }
+        (WhereYes (IsAcceptedAsWritten max_rounds definition.now declared.now)) }
     ensures headline { IfOk result
-        (WhereVerdict (WhereAccepted
-        (NeverFaultsAsInferred max_rounds definition.now declared.now))) }
+        (WhereYes (NeverFaultsAsInferred max_rounds definition.now declared.now)) }
     ensures otherwise { IfOk result
         (Tells (IsFindingOn max_rounds definition.now declared.now)
         (AreFewRounds definition.now declared.now max_rounds)) }
     ensures refused { IfErr result (SubjectFaultStands definition.now declared.now) }
 {
     let subject = read_subject(alloc, definition, declared)?;
-    let settled = infer_numbered(alloc, &subject.machine, &subject.declared, max_rounds);
-    let mut certificate = match settled {
-        Ok(certificate) => certificate,
-        Err(InferRefusal::Finding(finding)) => return Ok(Verified::Finding(finding)),
-        Err(InferRefusal::NotSettled) => return Ok(Verified::NotSettled),
-        Err(InferRefusal::OutOfMemory) => return Err(RunFault::OutOfMemory),
-    };
+    let verified = verify_subject(alloc, &subject, max_rounds)?;
+    Ok(verified)
+}
+
+/// Whether a certificate is inferred of a machine and its declared shapes in at most `max_rounds` rounds: yes where there is
+/// one, since what is inferred breaks none of the checker's rules. So [`verify_texts`](crate::verify_texts) says yes on each
+/// text that [`infer_texts`] may write of it. Where there is none, the finding is that of [`infer_texts`], or the shapes don't
+/// settle.
+///
+/// Refused only where an allocation was refused.
+pub fn verify_subject(
+    alloc: Global,
+    subject: &Subject,
+    max_rounds: u32,
+) -> Result<Verified, OutOfMemory>
+    ensures yes { (definition declared : Bytes) → Describes definition declared subject.now
+        → IfOk result (WhereYes (IsAcceptedAsInferred max_rounds definition declared)) }
+    ensures on_texts { (definition declared : Bytes) → Describes definition declared subject.now
+        → IfOk result (WhereYes (IsAcceptedAsWritten max_rounds definition declared)) }
+    ensures headline { (definition declared : Bytes) → Describes definition declared subject.now
+        → IfOk result (WhereYes (NeverFaultsAsInferred max_rounds definition declared)) }
+    ensures otherwise { (definition declared : Bytes) → Describes definition declared subject.now
+        → IfOk result (Tells (IsFindingOn max_rounds definition declared)
+        (AreFewRounds definition declared max_rounds)) }
+{
     closed_runs_never_fault();
     closed_runs_tell_no_fault();
     texts_have_one_meaning();
-    match check_numbered(alloc, &subject.machine, &subject.declared, &mut certificate) {
-        Ok(verdict) => Ok(Verified::Verdict(verdict)),
-        Err(_) => Err(RunFault::OutOfMemory),
+    match infer_numbered(alloc, &subject.machine, &subject.declared, max_rounds) {
+        Ok(_) => Ok(Verified::Yes),
+        Err(InferRefusal::Finding(finding)) => Ok(Verified::Finding(finding)),
+        Err(InferRefusal::NotSettled) => Ok(Verified::NotSettled),
+        Err(InferRefusal::OutOfMemory) => Err(OutOfMemory),
     }
 }

@@ -1,12 +1,14 @@
-use Rattle.std.proofs.Common.{[], ◌∷◌, sym, ap, ◌∙◌, subst}
+use Rattle.std.proofs.Common.{[], ◌∷◌, map, sym, ap, ◌∙◌, subst}
 use Rattle.std.proofs.lemmas.Result.{IfOk-weaker}
 use Rattle.asl_records.specs.View.{declared_view}
 use Rattle.asl_lint.specs.Tells.{TellsOfMachine, inferred, stopped, unsettled}
+use Rattle.asl_problems.specs.Told.{told_by}
 use Rattle.asl_lint.proofs.inferring.judge.Goals as goal
 
 pub returns-in-Ok-clause-told : goal.returns-in-Ok-clause-told
-returns-in-Ok-clause-told c =
-    IfOk-weaker c.judge_by.result _ _ (λ judged told. λ m shown. inferred (c.in-Ok.ensures.inferred m shown) (told m shown)) c.judge_by.ensures.told
+returns-in-Ok-clause-told c = λ m shown.
+    subst (λ ps. TellsOfMachine c.args.max_rounds m (declared_view c.args.declared.now) (map told_by ps)) (sym c.new.ensures.items)
+    (inferred (c.in-Ok.ensures.inferred m shown) (c.in-Ok.ensures.no_rule_broken m shown))
 
 pub returns-in-Err-Finding-clause-told : goal.returns-in-Err-Finding-clause-told
 returns-in-Err-Finding-clause-told c =

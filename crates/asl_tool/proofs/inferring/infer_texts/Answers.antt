@@ -1,9 +1,10 @@
+use Rattle.std.proofs.lemmas.Result.{err_from_is_err_and}
 use Rattle.asl_records.specs.Numbered.{numbered_view}
 use Rattle.asl_records.specs.View.{declared_view}
 use Rattle.asl_tool.proofs.inferring.infer_texts.Goals as goal
 
-pub returns-in-Ok-text_of_certificate-clause-certificate : goal.returns-in-Ok-text_of_certificate-clause-certificate
-returns-in-Ok-text_of_certificate-clause-certificate c =
+pub returns-clause-certificate : goal.returns-clause-certificate
+returns-clause-certificate c =
     let subject = c.in_ok-subject.subject in
     let read = c.in_ok-subject.ensures.read in
     let definition = read.machine.definition in
@@ -11,10 +12,10 @@ returns-in-Ok-text_of_certificate-clause-certificate c =
       machine = definition;
       shapes = declared_view subject.declared;
       certified = numbered_view c.in-Ok.certificate;
-      read = record { as_machine = read.machine.reads; as_declared = read.as_declared; as_certificate = c.in-Ok-text_of_certificate.ensures.reads_back c.in-Ok.ensures.shallow };
+      read = record { as_machine = read.machine.reads; as_declared = read.as_declared; as_certificate = c.in_ok-text.ensures.reads_back c.in-Ok.ensures.shallow };
       inferred = c.in-Ok.ensures.inferred definition read.machine.shown;
       closed = c.in-Ok.ensures.closed definition read.machine.shown;
-      compact = c.in-Ok-text_of_certificate.ensures.text;
+      compact = c.in_ok-text.ensures.text;
     }
 
 pub returns-in-Err-Finding-clause-finding : goal.returns-in-Err-Finding-clause-finding
@@ -31,3 +32,8 @@ returns-in-Err-Finding-clause-finding c =
       told = rw err.field-0-is at (err.ensures.told definition read.machine.shown);
       finding = rw err.field-0-is at (err.ensures.refused definition read.machine.shown);
     })
+
+pub returns-in_err-text-clause-refused : goal.returns-in_err-text-clause-refused
+returns-in_err-text-clause-refused c =
+    let p = err_from_is_err_and c.from_residual-in_err-text.result c.from_residual-in_err-text.ensures.1 in
+    rw (p.1, p.2) tt
