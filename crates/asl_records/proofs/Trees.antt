@@ -54,7 +54,7 @@ behind [] ys e = e
 behind (x ∷ xs) ys e = absurd (cc)
 
 -- the tree without references that an element is spells its shape
-right_tree : (several : Bool) (trees : List Tree) (name field : List ℕ) (v : Data) → IsWhole v → shape_complaints (reading_of several (Some trees)) name field v ≡ [] → (shape_of (plain_tree trees v) ≡ shape_from (Some trees) v) × (shape_faults several (plain_tree trees v) ≡ [])
+pub right_tree : (several : Bool) (trees : List Tree) (name field : List ℕ) (v : Data) → IsWhole v → shape_complaints (reading_of several (Some trees)) name field v ≡ [] → (shape_of (plain_tree trees v) ≡ shape_from (Some trees) v) × (shape_faults several (plain_tree trees v) ≡ [])
 right_tree several trees name field v whole right =
     let tree = tree_in v whole in
     let t = tree.0 in
@@ -66,7 +66,7 @@ right_tree several trees name field v whole right =
     let faults = none_mapped BadShape (shape_faults several (spelled_out trees t)) (behind (number_misfits (Some trees) t) (map BadShape (shape_faults several (spelled_out trees t))) none) in
     (ap shape_of plain ∙ sym from, ap (shape_faults several) plain ∙ faults)
 
-pushed_right : (several : Bool) (trees : List Tree) (t : Tree) → ((i : ℕ) (u : Tree) → slice_get trees i ≡ Some u → shape_faults several u ≡ []) → shape_faults several t ≡ [] → (i : ℕ) (u : Tree) → slice_get (trees ++ t ∷ []) i ≡ Some u → shape_faults several u ≡ []
+pub pushed_right : (several : Bool) (trees : List Tree) (t : Tree) → ((i : ℕ) (u : Tree) → slice_get trees i ≡ Some u → shape_faults several u ≡ []) → shape_faults several t ≡ [] → (i : ℕ) (u : Tree) → slice_get (trees ++ t ∷ []) i ≡ Some u → shape_faults several u ≡ []
 pushed_right several [] t right last zero u e = let same : t ≡ u = cc in ap (shape_faults several) (sym same) ∙ last
 pushed_right several [] t right last (suc i) u e = none_there several i u e
 pushed_right several (x ∷ trees) t right last zero u e = right zero u e

@@ -111,7 +111,10 @@ fn read_parts(
 }
 
 /// Whether lists of types may stand in a certificate of this version: not in 1, but in 2. There are no others.
-fn read_version(alloc: Global, version: Option<Value>) -> Result<bool, ReadFault>
+///
+/// Refused: MissingField where there is none, WrongKind where it is no integer, BadVersion where it is another one; OutOfMemory
+/// where an allocation was refused.
+pub fn read_version(alloc: Global, version: Option<Value>) -> Result<bool, ReadFault>
     requires { IfSome version (λ v. IsWhole (view v)) }
     ensures right { OnOk result ((reading : Reading)
         → field_complaints reading [] version_row (option_map view version) ≡ []) }
@@ -190,8 +193,11 @@ fn read_entries(
     Ok(states)
 }
 
-/// The shapes of the state of this name.
-fn read_state(
+/// The numbers of the shapes of the state of this name, of which a certificate's entry is given. The shapes come into the
+/// table, and what is in it stays.
+///
+/// Refuses where the entry breaks a rule, with a fault that stands there, and where an allocation was refused.
+pub fn read_state(
     reader: Reader<'_>,
     shapes: &mut Shapes,
     name: &str,

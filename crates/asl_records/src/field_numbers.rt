@@ -166,8 +166,10 @@ impl Reader<'_> {
         Ok(numbers)
     }
 
-    /// The number of the shape that a field's value stands for.
-    pub(crate) fn read_number(
+    /// The number of the shape that a field's value stands for. The shape comes into the table, and what is in it stays.
+    ///
+    /// Refuses where the value breaks a rule, with a fault that stands there, and where an allocation was refused.
+    pub fn read_number(
         &self,
         shapes: &mut Shapes,
         field: &str,

@@ -22,13 +22,13 @@ use std::alloc::Global;
 /// Reads the fields of a record, which has an empty name, or of its entry of that name. What is refused is told with
 /// the name.
 #[derive(Clone, Copy, Drop)]
-pub(crate) struct Reader<'n> {
-    pub(crate) alloc: Global,
-    pub(crate) name: &'n str,
+pub struct Reader<'n> {
+    pub alloc: Global,
+    pub name: &'n str,
     /// Whether lists of types may stand in the shapes of a certificate; in declared shapes they may.
-    pub(crate) several: bool,
+    pub several: bool,
     /// The numbers of the shapes that references mean, where a certificate lists shapes.
-    pub(crate) listed: Option<&'n [usize]>,
+    pub listed: Option<&'n [usize]>,
 }
 
 impl Reader<'_> {

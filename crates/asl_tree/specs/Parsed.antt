@@ -1,4 +1,4 @@
--- The trees that a reading of tokens spells. No public clause cites this module.
+-- The trees that a reading of tokens spells.
 use Rattle.std.specs.Prelude.{Option, option_and_then}
 use Rattle.json.specs.Json as json
 use Rattle.serde_json.specs.Data.{no_members}

@@ -3,7 +3,7 @@
 //! A [`Tree`] is any JSON value whose numbers are whole and fit an `i64` (RFC 8259; States Language, "Data").
 //! [`read`] makes one of a text, [`to_text`] and [`write`] write it as compact JSON, [`copy`] and [`same`] copy and compare,
 //! [`is_whole`] tests whether a JSON value is one, [`to_value`] makes that value of a tree. [`quoted`] and [`in_line`] tell a
-//! text in a line.
+//! text in a line. [`next_tree`] reads a tree of the tokens of a text, where it stands among others.
 #![tactic(auto)]
 
 ghost use Rattle.std.specs.Prelude.{◌≡◌};
@@ -21,6 +21,7 @@ mod writing;
 
 pub use comparing::same;
 pub use copying::copy;
+pub use parsing::next_tree;
 pub use quoting::{in_line, quoted};
 pub use reading::{from_value, read, read_value};
 pub use wholeness::is_whole;

@@ -32,9 +32,14 @@ pub(crate) fn parse(alloc: Global, text: &str) -> Result<Tree, TreeRefusal>
     }
 }
 
-/// The tree that the next tokens spell, with at most so many levels.
+/// The tree that the next tokens spell, with at most so many levels of arrays and objects, each of which takes its part of
+/// the stack. Its tokens are no longer among those that are left.
+///
+/// Refused: NotJson where the tokens spell no value, or one of more levels; NotWhole where a number isn't whole, or is out of
+/// an `i64`'s range; OutOfMemory where an allocation was refused. What is refused as NotWhole may still be a tree, as where
+/// [`read`](crate::read) looks once more: one with such a number under a name that comes again.
 #[cycle(parse)]
-fn next_tree(alloc: Global, reader: &mut Reader<'_>, levels: usize) -> Result<Tree, TreeRefusal>
+pub fn next_tree(alloc: Global, reader: &mut Reader<'_>, levels: usize) -> Result<Tree, TreeRefusal>
     ensures tree { IfOk result
         (λ t. converted spelled (value levels reader.old) ≡ Some (view t, reader.new)) }
     ensures shorter { OnOk result (length reader.new < length reader.old) }
