@@ -1,0 +1,120 @@
+-- Reading a certificate's fields from tokens up to the end, and the certificate that they make.
+use Rattle.std.proofs.Common.{◌≡◌, ◌<◌, ℕ, Bool, List, [], ◌∷◌, ◌++◌, length, map, Option, Some, None, option_map, option_and_then, codes, pos, BTreeMap, Bor, Vec, Global, String, refl, sym, ap, ap₂, ◌∙◌, subst, arith}
+use Rattle.json.specs.Json.{if_last, read_key, value}
+use Rattle.json.specs.Lex.{tokens}
+use Rattle.json.specs.Token.{Token}
+use Rattle.serde_json.specs.Data as values
+use Rattle.serde_json.specs.Data.{Data, Members}
+use Rattle.serde_json.specs.Find.{get_member}
+use Rattle.serde_json.specs.Read.{of_json, read}
+use Rattle.serde_json.specs.View.{view}
+use Rattle.serde_json.specs.declared.value.Value.{Value}
+use Rattle.asl_model.specs.Records.{Reading, certificate_reading, entries_from, listed_complaints, listed_in, shape_from, state_from, StandsForCertificate}
+use Rattle.asl_model.specs.Shape.{Shape}
+use Rattle.asl_model.specs.Tree.{Tree}
+use Rattle.asl_numbered.specs.Expansion.{IsNumberOf, Keeps}
+use Rattle.asl_numbered.specs.References.{numbers_given}
+use Rattle.asl_records.specs.Listed.{IsReading}
+use Rattle.asl_records.specs.Numbered.{AreWithin, numbered_view}
+use Rattle.asl_records.specs.Parts.{complaint_of, field_complaints, is_number, listed_row, reading_of, shape_complaints, trees_there, version_row}
+use Rattle.asl_records.specs.declared.records.NumberedCertificate.{NumberedCertificate}
+use Rattle.asl_records.proofs.Certified.{is_its_reading, none_wrong}
+use Rattle.asl_records.proofs.Kept.{states_kept}
+use Rattle.asl_records.proofs.Meant.{IsLent, kept_items, lent_meant}
+use Rattle.asl_records.specs.declared.records.StateNumbers.{StateNumbers}
+use Rattle.asl_streams.specs.Fielded.{AreFields, AreStates, AreStatesRead, IsList, ReadsField, ReadsFields}
+use Rattle.asl_streams.specs.Streamed.{SpellMembers}
+use Rattle.asl_streams.specs.declared.fields.Fields.{Fields}
+use Rattle.asl_streams.proofs.Opened.{object_opened, whole_object}
+use Rattle.asl_tree.proofs.Parsed.{converted_there}
+use Rattle.asl_streams.proofs.Streams.{GoesOn, all_over, begun as members_begun, one_more}
+
+-- ---- one after another
+
+pub record Begun (several : Bool) (before : List Token) (now : List Shape) (left : List Token) (fields : Fields) : Type 0 where
+  pub found : Members
+  pub goes_on : GoesOn 126 before left found
+  pub are : AreFields several now found fields
+
+pub begun : (several : Bool) (before : List Token) (now : List Shape) → Begun several before now before (record { version = None; listed = None; output = None; states = None })
+begun several before now = record {
+  found = values.no_members;
+  goes_on = members_begun 126 before;
+  are = record { version = refl; output = refl; listed = tt; states = tt; whole = record { whole = refl }; foreign = refl };
+}
+
+pub gone_on : (several : Bool) (before : List Token) (start now : List Shape) (left s r : List Token) (name : List ℕ) (old new : Fields) → read_key left ≡ Some (Some name, s) → length r < length s → Begun several before start left old → ReadsField several name start now s r old new → Begun several before now r new
+gone_on several before start now left s r name old new key shorter h more = record {
+  found = values.put name more.value h.found;
+  goes_on = one_more 126 name more.value before left s r h.found key more.spelled shorter h.goes_on;
+  are = more.are h.found h.are;
+}
+
+pub over : (several : Bool) (before : List Token) (now : List Shape) (left r : List Token) (fields : Fields) → read_key left ≡ Some (None, r) → Begun several before now left fields → ReadsFields several now before r fields
+over several before now left r fields end h = record { found = h.found; spelled = all_over 126 before left r h.found end h.goes_on; are = h.are }
+
+-- references mean what is listed
+kept_meant : (several : Bool) (now : List Shape) (o : Option Data) (kept : Option (Vec ℕ Global)) → IsList several now o (option_map (λ ns. ns.items) kept) → IsReading several now (kept_items kept) (reading_of several (trees_there o))
+kept_meant several now None None h = record { same = refl; meant = tt }
+kept_meant several now None (Some ns) h = absurd h
+kept_meant several now (Some d) None h = absurd h
+kept_meant several now (Some d) (Some ns) h = rw h.is (record { same = refl; meant = h.meant })
+
+pub lent_means : (several : Bool) (now : List Shape) (found : Members) (fields : Fields) (lent : Option (Bor (List ℕ))) → IsLent fields.listed lent → AreFields several now found fields → IsReading several now (numbers_given lent) (reading_of several (trees_there (get_member (codes "shapes") found)))
+lent_means several now found fields lent is h = lent_meant several now fields.listed lent _ is (kept_meant several now _ fields.listed h.listed)
+
+-- ---- the certificate
+
+list_right : (several : Bool) (now : List Shape) (listed : Option (List Tree)) (o : Option Data) (ns : Option (List ℕ)) → IsList several now o ns → field_complaints (reading_of several listed) [] listed_row o ≡ []
+list_right several now listed None None h = refl
+list_right several now listed None (Some ns) h = absurd h
+list_right several now listed (Some d) None h = absurd h
+list_right several now listed (Some d) (Some ns) h = rw h.is (ap (map (complaint_of [] (codes "shapes"))) h.right)
+
+-- what was read of the states
+stated_there : (several : Bool) (now : List Shape) (trees : Option (List Tree)) (o : Option Data) (es : List (String Global × StateNumbers)) → AreStates several now trees o (Some es) → (d : Data) × (o ≡ Some d) × AreStatesRead several now trees d es
+stated_there several now trees None es h = absurd h
+stated_there several now trees (Some d) es h = (d, refl, h)
+
+module _ (several : Bool) (start now : List Shape) (found : Members) (fields : Fields) (output : Value) (n : ℕ) (h : AreFields several start found fields) (keeps : Keeps start now) where
+  abbrev trees : Option (List Tree)
+  trees = trees_there (get_member (codes "shapes") found)
+
+  module _ (states : BTreeMap (String Global) StateNumbers) (there : fields.output ≡ Some output) (stated : fields.states ≡ Some states) where
+    abbrev made : NumberedCertificate
+    made = record { shapes = now; output = n; states = states }
+
+    read_states : (d : Data) × (get_member (codes "states") found ≡ Some d) × AreStatesRead several start trees d states.entries
+    read_states = stated_there several start trees (get_member (codes "states") found) states.entries (rw stated at h.states)
+
+    output_there : get_member (codes "output") found ≡ Some (view output)
+    output_there = h.output ∙ ap (option_map view) there
+
+    pub stands : several ≡ is_number (pos 2) (option_map view fields.version) → ((reading : Reading) → field_complaints reading [] version_row (option_map view fields.version) ≡ []) → shape_complaints (reading_of several trees) [] (codes "output") (view output) ≡ [] → IsNumberOf now (shape_from trees (view output)) n
+        → StandsForCertificate (values.object found) (numbered_view made)
+    stands version right fits number =
+        let v = values.object found in
+        let reading = reading_of several (listed_in found) in
+        let its : reading ≡ certificate_reading found = is_its_reading several v found refl (version ∙ ap (is_number (pos 2)) (sym h.version)) in
+        let s = read_states in
+        let states_there : get_member (codes "states") found ≡ Some (values.object s.2.found) = s.1 ∙ ap Some s.2.is in
+        let kept = states_kept start now keeps (entries_from (state_from trees) s.2.found) states.entries s.2.same in
+        record {
+          whole = (whole_object found h.whole).whole;
+          none_wrong = subst (λ r. listed_complaints r v ≡ []) its (none_wrong reading v found refl h.foreign
+              (ap (field_complaints reading [] version_row) h.version ∙ right reading)
+              (list_right several start (listed_in found) (get_member (codes "shapes") found) _ h.listed)
+              (rw (output_there, states_there) (ap₂ (λ xs ys. xs ++ ys) fits s.2.right)));
+          same = rw (output_there, states_there, number.same, kept.same) refl;
+        }
+
+    pub within : IsNumberOf now (shape_from trees (view output)) n → AreWithin made
+    within number = record { output = number.within; states = (states_kept start now keeps (entries_from (state_from trees) read_states.2.found) states.entries read_states.2.same).below }
+
+-- ---- the whole text
+
+pub whole_read : (text : List ℕ) (s : List Token) (found : Members) → tokens text ≡ Token.begin_object ∷ s → SpellMembers 126 s [] found → read text ≡ Some (values.object found)
+whole_read text s found first spelled =
+    let all = object_opened 127 (tokens text) s [] found (omega arith) first spelled in
+    let j = converted_there of_json (value 127 (tokens text)) (values.object found) [] all in
+    ap (λ q. option_and_then of_json (option_and_then (λ p. if_last p.0 p.1) q)) j.1 ∙ j.2

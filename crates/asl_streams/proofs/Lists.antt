@@ -1,0 +1,162 @@
+-- Reading the shapes that a certificate lists from tokens, one after another.
+use Rattle.std.proofs.Common.{◌≡◌, ◌-◌, ◌<◌, ◌≤◌, ℕ, Bool, List, [], ◌∷◌, ◌++◌, length, map, slice_get, true, option_map, Option, Some, None, Bor, is_some, refl, sym, ap, ap₂, ◌∙◌, subst, arith}
+use Rattle.std.proofs.lemmas.List.{map-append}
+use Rattle.json.specs.Json as json
+use Rattle.json.specs.Json.{after_end_array, items, value, parse_map}
+use Rattle.json.specs.Token.{Token}
+use Rattle.json.proofs.Grammar.{after_end_array-shorter, items_end, items_more}
+use Rattle.serde_json.specs.Data as values
+use Rattle.serde_json.specs.Data.{Data, Items}
+use Rattle.serde_json.specs.Read.{of_json, of_items, converted}
+use Rattle.asl_model.specs.Json.{tree_of, elements_of}
+use Rattle.asl_model.specs.Records.{listed_after, listed_misfits, plain_tree, shape_from, shape_misfits}
+use Rattle.asl_model.specs.Shape.{Shape}
+use Rattle.asl_model.specs.ShapeSpelling.{shape_of, shape_faults}
+use Rattle.asl_model.specs.Tree.{Tree}
+use Rattle.asl_numbered.specs.Expansion.{shape_at, AreBelow, IsNumberOf, Keeps}
+use Rattle.asl_numbered.specs.Laws.{below-append, keeps_same, keeps_trans, kept_numbers, kept_shapes}
+use Rattle.asl_records.specs.Listed.{AreInTable, AreMeant, ForReading, IsReading}
+use Rattle.asl_records.specs.Parts.{IsWhole, ElementsAreWhole, complaint_of, reading_of, shape_complaints}
+use Rattle.asl_records.proofs.Lists.{none_mapped}
+use Rattle.asl_records.proofs.Trees.{pushed_right, right_tree}
+use Rattle.asl_streams.specs.Streamed.{ReadsList, SpellItems}
+use Rattle.asl_tree.proofs.Parsed.{converted_there}
+
+-- these elements, and the others behind them
+abbrev front : List Data → Items → Items
+front [] rest = rest
+front (d ∷ ds) rest = values.item d (front ds rest)
+
+front_push : (ds : List Data) (d : Data) (rest : Items) → front (ds ++ d ∷ []) rest ≡ front ds (values.item d rest)
+front_push [] d rest = refl
+front_push (e ∷ ds) d rest = ap (values.item e) (front_push ds d rest)
+
+-- ---- elements, one after another
+
+mapped_twice : (d : Data) (r : List Token) (o : Option Items) → option_map (λ b. (b, r)) (option_map (values.item d) o) ≡ parse_map (values.item d) (option_map (λ a. (a, r)) o)
+mapped_twice d r None = refl
+mapped_twice d r (Some ds) = refl
+
+with_item : (j : json.Json) (d : Data) (o : Option (json.Items × List Token)) → of_json j ≡ Some d → converted of_items (parse_map (json.item j) o) ≡ parse_map (values.item d) (converted of_items o)
+with_item j d None e = refl
+with_item j d (Some p) e = rw e (mapped_twice d p.1 (of_items p.0))
+
+pushed : (ds : List Data) (d : Data) (o : Option (Items × List Token)) → parse_map (front ds) (parse_map (values.item d) o) ≡ parse_map (front (ds ++ d ∷ [])) o
+pushed ds d None = refl
+pushed ds d (Some p) = ap (λ es. Some (es, p.1)) (sym (front_push ds d p.0))
+
+nothing : (o : Option (Items × List Token)) → o ≡ parse_map (front []) o
+nothing None = refl
+nothing (Some p) = refl
+
+-- elements that were found, and what the tokens that are left add to them
+record GoesOn (levels : ℕ) (before left : List Token) (found : List Data) : Type 0 where
+  turns : ℕ
+  enough : length left ≤ turns
+  less : length left ≤ length before
+  same : converted of_items (items (value levels) (length before) before) ≡ parse_map (front found) (converted of_items (items (value levels) turns left))
+
+one_more : (levels : ℕ) (d : Data) (before left r : List Token) (found : List Data) → after_end_array left ≡ None → converted of_json (value levels left) ≡ Some (d, r) → length r < length left → GoesOn levels before left found → GoesOn levels before r (found ++ d ∷ [])
+one_more levels d before left r found going e shorter h =
+    let j = converted_there of_json (value levels left) d r e in
+    record {
+      turns = h.turns - 1;
+      enough = omega (arith, h.enough);
+      less = omega (arith, h.less, shorter);
+      same = h.same ∙ ap (parse_map (front found)) (ap (converted of_items) (items_more (value levels) h.turns left r j.0 (omega (arith, h.enough)) going j.1) ∙ with_item j.0 d _ j.2) ∙ pushed found d _;
+    }
+
+all_over : (levels : ℕ) (before left r : List Token) (found : List Data) → after_end_array left ≡ Some r → GoesOn levels before left found → SpellItems levels before r (front found values.no_items)
+all_over levels before left r found end h = h.same ∙ ap (λ o. parse_map (front found) (converted of_items o)) (items_end (value levels) h.turns left r h.enough end)
+
+-- ---- whole elements
+
+some_there : {A : Type 0} (o : Option A) → is_some o ≡ true → (a : A) × (o ≡ Some a)
+some_there None h = absurd (cc)
+some_there (Some a) h = (a, refl)
+
+whole_item : (d : Data) (ds : Items) → IsWhole d → ElementsAreWhole ds → ElementsAreWhole (values.item d ds)
+whole_item d ds one all =
+    let t = some_there (tree_of d) one.whole in
+    let ts = some_there (elements_of ds) all.whole in
+    record { whole = rw (t.1, ts.1) refl }
+
+-- ---- listed shapes
+
+module _ (several : Bool) (start : List Shape) (levels : ℕ) (before : List Token) where
+  -- so far these shapes were read
+  pub record Lists (now : List Shape) (left : List Token) (ns : List ℕ) : Type 0 where
+    found : List Data
+    goes_on : GoesOn levels before left found
+    trees : List Tree
+    pub keeps : Keeps start now
+    meant : AreMeant several now ns trees
+    below : AreBelow (length now) ns
+    whole : (rest : Items) → ElementsAreWhole rest → ElementsAreWhole (front found rest)
+    wrong : (rest : Items) → listed_misfits several [] (front found rest) ≡ listed_misfits several trees rest
+    listed : (rest : Items) → listed_after [] (front found rest) ≡ listed_after trees rest
+
+  abbrev no_trees : List Tree
+  no_trees = []
+
+  none_there : (i : ℕ) (t : Tree) → slice_get no_trees i ≡ Some t → shape_faults several t ≡ []
+  none_there i t e = absurd (cc)
+
+  pub begun : (ns : List ℕ) → ns ≡ [] → Lists start before ns
+  begun ns none = rw none (record {
+    found = [];
+    goes_on = record { turns = length before; enough = omega arith; less = omega arith; same = nothing _ };
+    trees = [];
+    keeps = keeps_same start;
+    meant = record { shapes = refl; right = none_there };
+    below = tt;
+    whole = λ rest h. h;
+    wrong = λ rest. refl;
+    listed = λ rest. refl;
+  })
+
+  -- references in the next one mean those that were read
+  pub in_table : (now : List Shape) (left : List Token) (ns : List ℕ) (lent : Bor (List ℕ)) → lent.now ≡ ns → Lists now left ns → AreInTable now (Some lent)
+  in_table now left ns lent same h = record { below = subst (AreBelow (length now)) (sym same) h.below }
+
+  means_these : (now : List Shape) (left : List Token) (ns : List ℕ) (lent : Bor (List ℕ)) → lent.now ≡ ns → (h : Lists now left ns) → IsReading several now (Some lent.now) (reading_of several (Some h.trees))
+  means_these now left ns lent same h = record { same = refl; meant = subst (λ ms. AreMeant several now ms h.trees) (sym same) h.meant }
+
+  pub gone_on : (name field : List ℕ) (now new : List Shape) (left r : List Token) (ns more : List ℕ) (lent : Bor (List ℕ)) (d : Data) (n : ℕ) → lent.now ≡ ns → Lists now left ns → after_end_array left ≡ None → converted of_json (value levels left) ≡ Some (d, r) → length r < length left → IsWhole d → Keeps now new
+      → ForReading several now (Some lent) (λ reading. shape_complaints reading name field d ≡ []) → ForReading several now (Some lent) (λ reading. IsNumberOf new (shape_from reading.listed d) n) → more ≡ ns ++ n ∷ [] → Lists new r more
+  gone_on name field now new left r ns more lent d n same h going e shorter whole keeps right is made =
+      let means = means_these now left ns lent same h in
+      let number = is.each (reading_of several (Some h.trees)) means in
+      let t = plain_tree h.trees d in
+      let tree = right_tree several h.trees name field d whole (right.each (reading_of several (Some h.trees)) means) in
+      let within : n < length new = number.within in
+      let one : shape_of t ≡ shape_at new n = tree.0 ∙ sym number.same in
+      let earlier : map shape_of h.trees ≡ map (shape_at new) ns = h.meant.shapes ∙ sym (kept_shapes now new ns keeps h.below) in
+      let none : shape_misfits (reading_of several (Some h.trees)) d ≡ [] = none_mapped (complaint_of name field) (shape_misfits (reading_of several (Some h.trees)) d) (right.each (reading_of several (Some h.trees)) means) in
+      record {
+        found = h.found ++ d ∷ [];
+        goes_on = one_more levels d before left r h.found going e shorter h.goes_on;
+        trees = h.trees ++ t ∷ [];
+        keeps = keeps_trans start now new h.keeps keeps;
+        meant = subst (λ ms. AreMeant several new ms (h.trees ++ t ∷ [])) (sym made) (record {
+          shapes = map-append shape_of h.trees (t ∷ []) ∙ (ap₂ (λ xs x. xs ++ x ∷ []) earlier one ∙ sym (map-append (shape_at new) ns (n ∷ [])));
+          right = pushed_right several h.trees t h.meant.right tree.1;
+        });
+        below = subst (AreBelow (length new)) (sym made) (below-append (length new) ns (n ∷ []) (kept_numbers now new ns keeps h.below) (within, tt));
+        whole = λ rest all. subst ElementsAreWhole (sym (front_push h.found d rest)) (h.whole (values.item d rest) (whole_item d rest whole all));
+        wrong = λ rest. ap (listed_misfits several []) (front_push h.found d rest) ∙ h.wrong (values.item d rest) ∙ ap (λ fs. fs ++ listed_misfits several (h.trees ++ t ∷ []) rest) none;
+        listed = λ rest. ap (listed_after []) (front_push h.found d rest) ∙ h.listed (values.item d rest);
+      }
+
+  pub lists_shorter : (now : List Shape) (left r : List Token) (ns : List ℕ) → Lists now left ns → after_end_array left ≡ Some r → length r < length before
+  lists_shorter now left r ns h end = let less = after_end_array-shorter left r end in omega (arith, h.goes_on.less, less)
+
+  pub over : (now : List Shape) (left r : List Token) (ns : List ℕ) → Lists now left ns → after_end_array left ≡ Some r → ReadsList several now levels before r ns
+  over now left r ns h end = record {
+    found = front h.found values.no_items;
+    spelled = all_over levels before left r h.found end h.goes_on;
+    whole = h.whole values.no_items (record { whole = refl });
+    right = h.wrong values.no_items;
+    meant = subst (AreMeant several now ns) (sym (h.listed values.no_items)) h.meant;
+    below = h.below;
+  }

@@ -1,0 +1,127 @@
+-- What is read of members stays right where one more is put among them.
+use Rattle.std.proofs.Common.{◌≡◌, ℕ, List, [], ◌∷◌, ◌++◌, length, String, Global, string_bytes, string_cmp, is_some, true, Option, Some, None, option_map, option_and_then, Ordering, Less, Equal, Greater, nat_cmp, refl, sym, ap, ap₂, ◌∙◌, subst}
+use Rattle.std.specs.BTreeMap.{insert_entry}
+use Rattle.std.specs.Cmp.Lexicographic.{slice_cmp}
+use Rattle.std.specs.List.{AllByRecursion}
+use Rattle.std.specs.Ordering.{match_ordering}
+use Rattle.serde_json.specs.Data as values
+use Rattle.serde_json.specs.Data.{Data, Members}
+use Rattle.asl_model.specs.Certificate.{StateShapes}
+use Rattle.asl_model.specs.Json.{tree_of, members_of}
+use Rattle.asl_model.specs.Records.{Reading, RecordComplaint, RecordRow, entries_complaints, entries_from, object_complaints}
+use Rattle.asl_model.specs.Shape.{Shape}
+use Rattle.asl_model.specs.Tree as model
+use Rattle.asl_records.specs.Numbered.{numbers_view, numbered_entries, AreNumbersBelow}
+use Rattle.asl_records.specs.Numbering.{AreStateOf, AreStatesOf}
+use Rattle.asl_records.specs.Parts.{IsWhole, AreWhole}
+use Rattle.asl_records.specs.declared.records.StateNumbers.{StateNumbers}
+use Rattle.asl_shape.proofs.Mentions.{equal_names}
+
+-- ---- whole members
+
+some_there : {A : Type 0} (o : Option A) → is_some o ≡ true → (a : A) × (o ≡ Some a)
+some_there None h = absurd (cc)
+some_there (Some a) h = (a, refl)
+
+whole_member : (k : List ℕ) (d : Data) (ms : Members) → is_some (tree_of d) ≡ true → is_some (members_of ms) ≡ true → is_some (members_of (values.member k d ms)) ≡ true
+whole_member k d ms one all =
+    let t = some_there (tree_of d) one in
+    let fs = some_there (members_of ms) all in
+    rw (t.1, fs.1) refl
+
+whole_parts : (k : List ℕ) (d : Data) (ms : Members) → is_some (members_of (values.member k d ms)) ≡ true → (is_some (tree_of d) ≡ true) × (is_some (members_of ms) ≡ true)
+whole_parts k d ms h = go (tree_of d) (members_of ms) h
+  where
+    go : (o : Option model.Tree) (p : Option model.Fields) → is_some (option_and_then (λ t. option_map (model.AndField k t) p) o) ≡ true → (is_some o ≡ true) × (is_some p ≡ true)
+    go None p h = absurd (cc)
+    go (Some t) None h = absurd (cc)
+    go (Some t) (Some fs) h = (refl, refl)
+
+put_whole : (k : List ℕ) (d : Data) (ms : Members) → is_some (tree_of d) ≡ true → is_some (members_of ms) ≡ true → is_some (members_of (values.put k d ms)) ≡ true
+put_whole k d values.no_members one all = whole_member k d values.no_members one refl
+put_whole k d (values.member l e ms) one all =
+    let p = whole_parts l e ms all in
+    go (slice_cmp nat_cmp k l) p.0 p.1 (put_whole k d ms one p.1)
+  where
+    go : (o : Ordering) → is_some (tree_of e) ≡ true → is_some (members_of ms) ≡ true → is_some (members_of (values.put k d ms)) ≡ true
+        → is_some (members_of (match_ordering o (values.member k d (values.member l e ms)) (values.member l d ms) (values.member l e (values.put k d ms)))) ≡ true
+    go Less first rest further = whole_member k d (values.member l e ms) one (whole_member l e ms first rest)
+    go Equal first rest further = whole_member l d ms one rest
+    go Greater first rest further = whole_member l e (values.put k d ms) first further
+
+pub whole_put : (k : List ℕ) (d : Data) (ms : Members) → IsWhole d → AreWhole ms → AreWhole (values.put k d ms)
+whole_put k d ms one all = record { whole = put_whole k d ms one.whole all.whole }
+
+-- ---- complaints
+
+first_none : (xs ys : List RecordComplaint) → xs ++ ys ≡ [] → xs ≡ []
+first_none [] ys e = refl
+first_none (x ∷ xs) ys e = absurd (cc)
+
+later_none : (xs ys : List RecordComplaint) → xs ++ ys ≡ [] → ys ≡ []
+later_none [] ys e = e
+later_none (x ∷ xs) ys e = absurd (cc)
+
+pub right_put : (reading : Reading) (rows : List RecordRow) (k : List ℕ) (d : Data) (ms : Members) → object_complaints reading k rows d ≡ [] → entries_complaints reading rows ms ≡ [] → entries_complaints reading rows (values.put k d ms) ≡ []
+right_put reading rows k d values.no_members right all = ap (λ cs. cs ++ []) right
+right_put reading rows k d (values.member l e ms) right all =
+    go (slice_cmp nat_cmp k l) refl (right_put reading rows k d ms right (later_none (object_complaints reading l rows e) (entries_complaints reading rows ms) all))
+  where
+    go : (o : Ordering) → slice_cmp nat_cmp k l ≡ o → entries_complaints reading rows (values.put k d ms) ≡ []
+        → entries_complaints reading rows (match_ordering o (values.member k d (values.member l e ms)) (values.member l d ms) (values.member l e (values.put k d ms))) ≡ []
+    go Less is further = ap₂ (λ xs ys. xs ++ ys) right all
+    go Equal is further =
+        ap₂ (λ xs ys. xs ++ ys) (subst (λ n. object_complaints reading n rows d ≡ []) (equal_names k l is) right)
+        (later_none (object_complaints reading l rows e) (entries_complaints reading rows ms) all)
+    go Greater is further = ap₂ (λ xs ys. xs ++ ys) (first_none (object_complaints reading l rows e) (entries_complaints reading rows ms) all) further
+
+-- ---- states
+
+abbrev Entry : Type 0
+Entry = String Global × StateNumbers
+
+abbrev Shown : Type 0
+Shown = List (List ℕ × StateShapes)
+
+abbrev put_shown : List ℕ → StateShapes → Shown → Shown
+put_shown k s [] = (k, s) ∷ []
+put_shown k s (e ∷ es) = match_ordering (slice_cmp nat_cmp k e.0) ((k, s) ∷ e ∷ es) ((e.0, s) ∷ es) (e ∷ put_shown k s es)
+
+from_put : (f : Data → StateShapes) (k : List ℕ) (d : Data) (ms : Members) → entries_from f (values.put k d ms) ≡ put_shown k (f d) (entries_from f ms)
+from_put f k d values.no_members = refl
+from_put f k d (values.member l e ms) = go (slice_cmp nat_cmp k l) (from_put f k d ms)
+  where
+    go : (o : Ordering) → entries_from f (values.put k d ms) ≡ put_shown k (f d) (entries_from f ms)
+        → entries_from f (match_ordering o (values.member k d (values.member l e ms)) (values.member l d ms) (values.member l e (values.put k d ms)))
+        ≡ match_ordering o ((k, f d) ∷ (l, f e) ∷ entries_from f ms) ((l, f d) ∷ entries_from f ms) ((l, f e) ∷ put_shown k (f d) (entries_from f ms))
+    go Less further = refl
+    go Equal further = refl
+    go Greater further = ap (λ es. (l, f e) ∷ es) further
+
+numbered_put : (table : List Shape) (k : String Global) (s : StateNumbers) (es : List Entry) → numbered_entries table (insert_entry string_cmp es k s) ≡ put_shown (string_bytes k) (numbers_view table s) (numbered_entries table es)
+numbered_put table k s [] = refl
+numbered_put table k s (e ∷ es) = go (string_cmp k e.0) (numbered_put table k s es)
+  where
+    go : (o : Ordering) → numbered_entries table (insert_entry string_cmp es k s) ≡ put_shown (string_bytes k) (numbers_view table s) (numbered_entries table es)
+        → numbered_entries table (match_ordering o ((k, s) ∷ e ∷ es) ((e.0, s) ∷ es) (e ∷ insert_entry string_cmp es k s))
+        ≡ match_ordering o ((string_bytes k, numbers_view table s) ∷ numbered_entries table (e ∷ es)) ((string_bytes e.0, numbers_view table s) ∷ numbered_entries table es) ((string_bytes e.0, numbers_view table e.1) ∷ put_shown (string_bytes k) (numbers_view table s) (numbered_entries table es))
+    go Less further = refl
+    go Equal further = refl
+    go Greater further = ap (λ xs. (string_bytes e.0, numbers_view table e.1) ∷ xs) further
+
+below_put : (bound : ℕ) (k : String Global) (s : StateNumbers) (es : List Entry) → AreNumbersBelow bound s → AllByRecursion (λ (e : Entry). AreNumbersBelow bound e.1) es → AllByRecursion (λ (e : Entry). AreNumbersBelow bound e.1) (insert_entry string_cmp es k s)
+below_put bound k s [] one all = (one, tt)
+below_put bound k s (e ∷ es) one all = go (string_cmp k e.0) (below_put bound k s es one all.1)
+  where
+    go : (o : Ordering) → AllByRecursion (λ (x : Entry). AreNumbersBelow bound x.1) (insert_entry string_cmp es k s)
+        → AllByRecursion (λ (x : Entry). AreNumbersBelow bound x.1) (match_ordering o ((k, s) ∷ e ∷ es) ((e.0, s) ∷ es) (e ∷ insert_entry string_cmp es k s))
+    go Less further = (one, all)
+    go Equal further = (one, all.1)
+    go Greater further = (all.0, further)
+
+pub states_put : (table : List Shape) (f : Data → StateShapes) (k : List ℕ) (d : Data) (ms : Members) (name : String Global) (s : StateNumbers) (es : List Entry) → string_bytes name ≡ k → AreStateOf table (f d) s → AreStatesOf table (entries_from f ms) es
+    → AreStatesOf table (entries_from f (values.put k d ms)) (insert_entry string_cmp es name s)
+states_put table f k d ms name s es named one all = record {
+  below = record { each = below_put (length table) name s es one.below all.below.each };
+  same = numbered_put table name s es ∙ ap₂ (λ n x. put_shown n x (numbered_entries table es)) named one.same ∙ ap (put_shown k (f d)) all.same ∙ sym (from_put f k d ms);
+}

@@ -1,0 +1,29 @@
+use Rattle.std.proofs.Common.{◌≡◌, ◌∷◌, [], arith, sym, ◌∙◌, subst, None, codes}
+use Rattle.std.proofs.lemmas.Result.{IfOk-weaker}
+use Rattle.json.specs.Lex.{tokens}
+use Rattle.json.specs.Token.{Token}
+use Rattle.serde_json.specs.Data.{object}
+use Rattle.asl_records.proofs.Numbers.{found_whole}
+use Rattle.asl_streams.proofs.Fielded.{whole_read}
+use Rattle.asl_streams.proofs.PutFields.{none_read}
+use Rattle.asl_streams.specs.Streamed.{SpellMembers}
+use Rattle.asl_streams.proofs.certificates.read_tokens.Goals as goal
+
+pub certificate_of-requires-clause-version : goal.certificate_of-requires-clause-version
+certificate_of-requires-clause-version c =
+    let read = c.in_ok-fields.ensures in
+    found_whole read.found (codes "version") c.in_ok-fields.fields.version read.are.whole (sym read.are.version)
+
+pub certificate_of-requires-clause-output : goal.certificate_of-requires-clause-output
+certificate_of-requires-clause-output c =
+    let read = c.in_ok-fields.ensures in
+    found_whole read.found (codes "output") c.in_ok-fields.fields.output read.are.whole (sym read.are.output)
+
+pub returns-clause-certificate : goal.returns-clause-certificate
+returns-clause-certificate c =
+    let read = c.in_ok-fields.ensures in
+    let opened : tokens c.args.text.now ≡ Token.begin_object ∷ c.next.new.self = grind arith in
+    let none : c.next-2.result ≡ None = none_read c.next-2.result (sym c.is_some.ensures ∙ c.if-is_some.false) in
+    let ended : c.next_fields.new.tokens ≡ [] = grind arith in
+    let whole = whole_read c.args.text.now c.next.new.self read.found opened (subst (λ left. SpellMembers 126 c.next.new.self left read.found) ended read.spelled) in
+    IfOk-weaker c.certificate_of.result _ _ (λ certificate stands. (object read.found, whole, stands read.found read.are)) c.certificate_of.ensures.certificate

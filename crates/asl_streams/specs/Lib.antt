@@ -1,0 +1,2 @@
+pub mod Fielded
+pub mod Streamed

@@ -1,0 +1,41 @@
+//! Why a text isn't read entry by entry.
+
+ghost use Rattle.std.specs.Prelude.{◌≡◌};
+
+use asl_records::ReadFault;
+use asl_tree::{TreeRefusal, WantOfMemory};
+
+/// Why a text isn't read entry by entry.
+#[derive(Drop)]
+pub(crate) enum Unread {
+    /// It is no certificate, or none whose fields come in an order in which it can be read so.
+    Whole,
+    /// An allocation was refused.
+    OutOfMemory,
+}
+
+impl<E: WantOfMemory + Drop> From<E> for Unread {
+    ghost use Rattle.asl_streams.specs.declared.unread.Unread.{Unread};
+
+    ghost from_gives = { λ _ unread. unread ≡ Unread.OutOfMemory };
+
+    fn from(_want: E) -> Unread {
+        Unread::OutOfMemory
+    }
+}
+
+/// Why the next value isn't read.
+pub(crate) fn no_tree(refusal: TreeRefusal) -> Unread {
+    match refusal {
+        TreeRefusal::NotJson | TreeRefusal::NotWhole => Unread::Whole,
+        TreeRefusal::OutOfMemory => Unread::OutOfMemory,
+    }
+}
+
+/// Why a part isn't read.
+pub(crate) fn no_part(fault: ReadFault) -> Unread {
+    match fault {
+        ReadFault::NotWhole | ReadFault::Record(_) => Unread::Whole,
+        ReadFault::OutOfMemory => Unread::OutOfMemory,
+    }
+}
