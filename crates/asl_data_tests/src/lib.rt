@@ -21,6 +21,8 @@ mod records;
 #[cfg(test)]
 mod shapes;
 #[cfg(test)]
+mod streams;
+#[cfg(test)]
 mod tables;
 #[cfg(test)]
 mod templates;
