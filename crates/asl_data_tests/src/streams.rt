@@ -63,9 +63,9 @@ fn streamed(rt: &impl Abort, alloc: Global, text: &str) -> String {
 
 /// What is read of the text is what is wanted.
 #[derive(Drop)]
-struct Streamed;
+struct FromTokens;
 
-impl Rows for Streamed {
+impl Rows for FromTokens {
     fn expect(&mut self, rt: &impl Abort, alloc: Global, row: Row) {
         let (text, wanted) = two(rt, row);
         expect_text(rt, streamed(rt, alloc, text), wanted, &[text]);
@@ -74,5 +74,5 @@ impl Rows for Streamed {
 
 #[test]
 fn certificates_from_tokens(rt: HostRuntime) {
-    each_row(&rt, rt.alloc(), &TEXTS, &mut Streamed);
+    each_row(&rt, rt.alloc(), &TEXTS, &mut FromTokens);
 }
