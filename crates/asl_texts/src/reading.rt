@@ -1,6 +1,6 @@
 //! What a text reads as: a definition, declared shapes, a certificate, a tree, answers.
 
-ghost use Rattle.std.specs.Prelude.{◌≡◌, map, IfOk, IfErr};
+ghost use Rattle.std.specs.Prelude.{◌≡◌, map, IfOk, IfErr, IfSome};
 ghost use Rattle.serde_json.specs.View.{view as json_view};
 ghost use Rattle.asl_model.specs.AnswersSpelling.{ReadsAsAnswers};
 ghost use Rattle.asl_model.specs.Json.{ReadsAsTree, ReadsAsValue};
@@ -19,7 +19,8 @@ use crate::refusals::{TextFault, TextRefusal, Which};
 use asl_machine::{DefFault, DefRefusal, Machine};
 use asl_records::{Declared, NumberedCertificate, ReadFault, read_declared, read_numbered};
 use asl_run::Answer;
-use asl_tree::{Tree, TreeRefusal};
+use asl_streams::read_streamed;
+use asl_tree::{OutOfMemory, Tree, TreeRefusal};
 use serde_json::Value;
 use std::alloc::Global;
 use std::collections::VecDeque;
@@ -66,6 +67,9 @@ pub(crate) fn certificate_text(
     ensures within { IfOk result AreWithin }
     ensures refused { IfErr result (IsRefusedAs CertificateText (RefusesCertificate text.now)) }
 {
+    if let Some(certificate) = streamed_certificate(alloc, text)? {
+        return Ok(certificate);
+    }
     let which = Which::Certificate;
     let value = json_value(alloc, which, text)?;
     match read_numbered(alloc, value) {
@@ -73,6 +77,29 @@ pub(crate) fn certificate_text(
         Err(fault) => Err(TextRefusal {
             which,
             fault: record_fault(fault),
+        }),
+    }
+}
+
+/// The certificate that a text stands for, where it can be read entry by entry. What is wrong with a text that isn't read so is
+/// told by a reading of the whole.
+fn streamed_certificate(
+    alloc: Global,
+    text: &[u8],
+) -> Result<Option<NumberedCertificate>, TextRefusal>
+    ensures certificate { IfOk result (λ found. IfSome found
+        (λ certificate. ReadsAsCertificate text.now (numbered_view certificate))) }
+    ensures within { IfOk result (λ found. IfSome found AreWithin) }
+    ensures refused { IfErr result (IsRefusedAs CertificateText (RefusesCertificate text.now)) }
+{
+    let Ok(text) = str::from_utf8(text) else {
+        return Ok(None);
+    };
+    match read_streamed(alloc, text) {
+        Ok(found) => Ok(found),
+        Err(OutOfMemory) => Err(TextRefusal {
+            which: Which::Certificate,
+            fault: TextFault::OutOfMemory,
         }),
     }
 }

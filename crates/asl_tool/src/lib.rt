@@ -4,8 +4,9 @@
 //! texts. [`check_lines`] does it for three lines of a [`Source`] and writes the lines of the verdict to a [`Sink`].
 //! [`infer_texts`] infers such a certificate, which breaks no rule; [`verify_inferred`] says whether there is one, and
 //! [`verify_subject`] says it of texts that are read.
-//! [`run_texts`] runs a state machine on an input, with answers for its tasks, and writes what happened. [`read_subject`] reads a definition and declared shapes,
-//! [`read_text`] takes a whole source as one text, and [`closing`] says how a program ends that did any of this.
+//! [`run_texts`] runs a state machine on an input, with answers for its tasks, and writes what happened. [`read_subject`]
+//! reads a definition and declared shapes, [`read_text`] takes a whole source as one text, and [`closing`] says how a program
+//! ends that did any of this.
 //!
 //! All but what infers is `asl_texts`, which is shown here again.
 #![tactic(auto)]

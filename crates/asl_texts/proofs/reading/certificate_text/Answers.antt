@@ -8,7 +8,7 @@ use Rattle.asl_texts.proofs.reading.certificate_text.Goals as goal
 
 pub returns-in_err-value-clause-refused : goal.returns-in_err-value-clause-refused
 returns-in_err-value-clause-refused c =
-    let p = err_from_is_err_and c.from_residual.result c.from_residual.ensures.1 in
+    let p = err_from_is_err_and c.from_residual-in_err-value.result c.from_residual-in_err-value.ensures.1 in
     let refused = c.in_err-value.ensures.refused in
     rw (p.1, p.2) (refused.0, unread-certificate c.args.text.now (text_fault_view c.in_err-value.field-0.0.fault) refused.1)
 
