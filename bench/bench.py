@@ -34,8 +34,10 @@ Each form is a kind of text in growing sizes; the names of all forms, or those t
 - run-wide: an input of so many megabytes that goes through five states;
 - read-records, read-numbers, read-texts, read-unsorted: an input of so many megabytes, a list of records of six fields, of
   numbers, of texts with escapes, of records whose fields don't stand in byte order, which is read and no step taken;
-- read-definition: a definition of so many megabytes, with templates, rules and retriers, which is read and no step taken;
-- read-certificate: a certificate of so many megabytes, which is read and checked.
+- read-definition: a definition of so many megabytes, with templates, rules and retriers, which is read and no step taken.
+  Its floor is the JSON value that is made of the text and dropped again: half of the instructions;
+- read-certificate: a certificate of so many megabytes, which is read and checked. Half of the instructions go into the tree
+  of each entry and the JSON value that is made of it.
 
 For each size: the processor time of the program (user and system, the fastest of three runs) less that of a bare start,
 its peak memory, the time that json.loads takes for what the program reads and prints (fastest of three), the ratio of
