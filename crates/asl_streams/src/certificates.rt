@@ -18,10 +18,10 @@ use json::{Reader as Tokens, Scratch, Token};
 use std::alloc::Global;
 
 /// The certificate that a JSON text stands for, with its shapes in a table, each distinct one once. The table may have
-/// further shapes. It is read entry by entry, so that of the text no more than one state's entry stands in memory beside it.
-///
-/// None where it isn't read so: of a text that is no certificate; of one in which the list of shapes stands behind the states;
-/// and of one of version 2 in which the version is neither the first nor the last field.
+/// further shapes. It is read entry by entry: of the text one state's entry at a time is a JSON value, and the output's shape.
+/// None where it isn't read so, which says nothing of the text: it may be no certificate, or one in which the list of shapes
+/// stands behind the states, or a value breaks a rule whose name comes again, or the version is 2 and neither the first nor
+/// the last field.
 ///
 /// Refused only where an allocation was refused.
 pub fn read_streamed(alloc: Global, text: &str) -> Result<Option<NumberedCertificate>, OutOfMemory>

@@ -1,5 +1,5 @@
-//! Certificates read from the tokens of their texts (RFC 8259), entry by entry: of a text no JSON value of the whole stands in
-//! memory, but that of one state's entry at a time.
+//! Certificates read from the tokens of their texts (RFC 8259), entry by entry: no JSON value of the whole text stands in
+//! memory, but those of the output's shape and of one state's entry, or one listed shape, at a time.
 #![tactic(auto)]
 
 mod certificates;
