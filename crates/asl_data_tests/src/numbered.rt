@@ -5,7 +5,6 @@ use crate::tables::{Row, Rows, Table, each_row, three, two};
 use asl_numbered::{Node, NodeField, NumberedRefusal, Shapes};
 use asl_shape::{Shape, ShapeRefusal, read, write};
 use asl_tree::{Tree, to_text};
-use serde_json::Value;
 use std::alloc::Global;
 use std::collections::BTreeMap;
 use std::process::Abort;
@@ -631,17 +630,6 @@ fn tree_read(
     shapes.read_with(tree, Some(&[number]))
 }
 
-/// What comes of reading the JSON value so.
-fn value_read(
-    rt: &impl Abort,
-    shapes: &mut Shapes,
-    value: &Value,
-    number: usize,
-) -> Result<usize, NumberedRefusal> {
-    assert!(*rt; number < shapes.len());
-    shapes.read_value_with(value, Some(&[number]))
-}
-
 /// What comes of reading the tree so, in the first version of certificates.
 fn tree_read_v1(
     rt: &impl Abort,
@@ -653,34 +641,7 @@ fn tree_read_v1(
     shapes.read_with_v1(tree, Some(&[number]))
 }
 
-/// What comes of reading the JSON value so, in the first version of certificates.
-fn value_read_v1(
-    rt: &impl Abort,
-    shapes: &mut Shapes,
-    value: &Value,
-    number: usize,
-) -> Result<usize, NumberedRefusal> {
-    assert!(*rt; number < shapes.len());
-    shapes.read_value_with_v1(value, Some(&[number]))
-}
-
-/// The JSON value of the tree.
-fn value_of(rt: &impl Abort, alloc: Global, tree: &Tree) -> Value {
-    asl_tree::to_value(alloc, tree).expect(rt, "a value")
-}
-
-/// What was read of the tree, which was read of its JSON value as well.
-fn read_twice(
-    rt: &impl Abort,
-    answer: Result<usize, NumberedRefusal>,
-    again: Result<usize, NumberedRefusal>,
-    text: &str,
-) -> Result<usize, NumberedRefusal> {
-    expect_answer(rt, answer == again, true, &[text]);
-    answer
-}
-
-/// What comes of reading the text where that number alone is given. Its JSON value is read the same.
+/// What comes of reading the text where that number alone is given.
 fn read_over(
     rt: &impl Abort,
     alloc: Global,
@@ -688,10 +649,7 @@ fn read_over(
     text: &str,
     number: usize,
 ) -> Result<usize, NumberedRefusal> {
-    let tree = tree(rt, alloc, text);
-    let answer = tree_read(rt, shapes, &tree, number);
-    let again = value_read(rt, shapes, &value_of(rt, alloc, &tree), number);
-    read_twice(rt, answer, again, text)
+    tree_read(rt, shapes, &tree(rt, alloc, text), number)
 }
 
 /// The same in the first version of certificates.
@@ -702,10 +660,7 @@ fn read_over_v1(
     text: &str,
     number: usize,
 ) -> Result<usize, NumberedRefusal> {
-    let tree = tree(rt, alloc, text);
-    let answer = tree_read_v1(rt, shapes, &tree, number);
-    let again = value_read_v1(rt, shapes, &value_of(rt, alloc, &tree), number);
-    read_twice(rt, answer, again, text)
+    tree_read_v1(rt, shapes, &tree(rt, alloc, text), number)
 }
 
 /// The number and the shape of that number.

@@ -6,20 +6,14 @@ use asl_records::{
     Certificate, Declared, NumberedCertificate, number_certificate, read_certificate,
     read_declared, write_certificate, write_declared, write_numbered,
 };
-use asl_tree::{Tree, read_value, to_text, to_value};
-use serde_json::Value;
+use asl_tree::{Tree, read, to_text};
 use std::alloc::Global;
 use std::collections::BTreeMap;
 use std::process::Abort;
 
-/// The JSON value in the text.
-fn value(rt: &impl Abort, alloc: Global, text: &str) -> Value {
-    read_value(alloc, text.as_bytes()).expect(rt, "a value")
-}
-
-/// The JSON value of the tree.
-fn value_of(rt: &impl Abort, alloc: Global, tree: &Tree) -> Value {
-    to_value(alloc, tree).expect(rt, "a value")
+/// The tree in the text.
+fn tree(rt: &impl Abort, alloc: Global, text: &str) -> Tree {
+    read(alloc, text.as_bytes()).expect(rt, "a tree")
 }
 
 /// The compact text of the tree.
@@ -27,20 +21,20 @@ fn text_of(rt: &impl Abort, alloc: Global, tree: &Tree) -> String {
     to_text(alloc, tree).expect(rt, "a text")
 }
 
-/// The declared shapes in the JSON value.
-fn declared_in(rt: &impl Abort, alloc: Global, value: Value) -> Declared {
-    read_declared(alloc, value).expect(rt, "declared shapes")
+/// The declared shapes in the tree.
+fn declared_in(rt: &impl Abort, alloc: Global, tree: &Tree) -> Declared {
+    read_declared(alloc, tree).expect(rt, "declared shapes")
 }
 
 /// The tree that is written for the declared shapes in the text.
 fn declared_written(rt: &impl Abort, alloc: Global, text: &str) -> Tree {
-    let declared = declared_in(rt, alloc, value(rt, alloc, text));
+    let declared = declared_in(rt, alloc, &tree(rt, alloc, text));
     write_declared(alloc, &declared).expect(rt, "a tree")
 }
 
-/// How the declared shapes in the JSON value are printed.
-fn declared_printed(rt: &impl Abort, alloc: Global, value: Value) -> String {
-    printed(rt, alloc, &declared_in(rt, alloc, value))
+/// How the declared shapes in the tree are printed.
+fn declared_printed(rt: &impl Abort, alloc: Global, tree: &Tree) -> String {
+    printed(rt, alloc, &declared_in(rt, alloc, tree))
 }
 
 /// Declared shapes, and what is written for them.
@@ -71,9 +65,9 @@ fn declared_shapes(rt: HostRuntime) {
 
 /// What is written for the declared shapes in the text reads as the same.
 fn expect_declared_again(rt: &impl Abort, alloc: Global, text: &str) {
-    let written = value_of(rt, alloc, &declared_written(rt, alloc, text));
-    let wanted = declared_printed(rt, alloc, value(rt, alloc, text));
-    expect_text(rt, declared_printed(rt, alloc, written), &wanted, &[text]);
+    let written = declared_written(rt, alloc, text);
+    let wanted = declared_printed(rt, alloc, &tree(rt, alloc, text));
+    expect_text(rt, declared_printed(rt, alloc, &written), &wanted, &[text]);
 }
 
 #[test]
@@ -84,20 +78,20 @@ fn declared_shapes_read_back(rt: HostRuntime) {
     }
 }
 
-/// The certificate in the JSON value.
-fn certificate_in(rt: &impl Abort, alloc: Global, value: Value) -> Certificate {
-    read_certificate(alloc, value).expect(rt, "a certificate")
+/// The certificate in the tree.
+fn certificate_in(rt: &impl Abort, alloc: Global, tree: &Tree) -> Certificate {
+    read_certificate(alloc, tree).expect(rt, "a certificate")
 }
 
 /// The tree that is written for the certificate in the text.
 fn certificate_written(rt: &impl Abort, alloc: Global, text: &str) -> Tree {
-    let certificate = certificate_in(rt, alloc, value(rt, alloc, text));
+    let certificate = certificate_in(rt, alloc, &tree(rt, alloc, text));
     write_certificate(alloc, &certificate).expect(rt, "a tree")
 }
 
-/// How the certificate in the JSON value is printed.
-fn certificate_printed(rt: &impl Abort, alloc: Global, value: Value) -> String {
-    printed(rt, alloc, &certificate_in(rt, alloc, value))
+/// How the certificate in the tree is printed.
+fn certificate_printed(rt: &impl Abort, alloc: Global, tree: &Tree) -> String {
+    printed(rt, alloc, &certificate_in(rt, alloc, tree))
 }
 
 /// A certificate, and what is written for it.
@@ -152,11 +146,11 @@ struct ReadAgain;
 impl Rows for ReadAgain {
     fn expect(&mut self, rt: &impl Abort, alloc: Global, row: Row) {
         let (text, _) = two(rt, row);
-        let written = value_of(rt, alloc, &certificate_written(rt, alloc, text));
-        let wanted = certificate_printed(rt, alloc, value(rt, alloc, text));
+        let written = certificate_written(rt, alloc, text);
+        let wanted = certificate_printed(rt, alloc, &tree(rt, alloc, text));
         expect_text(
             rt,
-            certificate_printed(rt, alloc, written),
+            certificate_printed(rt, alloc, &written),
             &wanted,
             &[text],
         );
@@ -170,7 +164,7 @@ fn certificates_read_back(rt: HostRuntime) {
 
 /// How the refusal of the certificate in the text is printed.
 fn refusal_of(rt: &impl Abort, alloc: Global, text: &str) -> String {
-    match read_certificate(alloc, value(rt, alloc, text)) {
+    match read_certificate(alloc, &tree(rt, alloc, text)) {
         Ok(certificate) => printed(rt, alloc, &certificate),
         Err(refusal) => printed(rt, alloc, &refusal),
     }
@@ -286,7 +280,7 @@ const LISTED: [(&str, &str); 6] = [
 fn listed_shapes(rt: HostRuntime) {
     let alloc = rt.alloc();
     for (text, wanted) in &LISTED {
-        let certificate = certificate_in(&rt, alloc, value(&rt, alloc, text));
+        let certificate = certificate_in(&rt, alloc, &tree(&rt, alloc, text));
         expect_text(&rt, listed(&rt, alloc, &certificate), wanted, &[text]);
     }
 }

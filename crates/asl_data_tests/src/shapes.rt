@@ -4,10 +4,9 @@ use crate::expecting::{expect_answer, expect_text, printed};
 use crate::tables::{Row, Rows, Table, each_row, three, two};
 use asl_shape::{
     OwnedKinds, Shape, ShapeRefusal, copy, example, has, inhabited, join, of_kinds, outside,
-    proper, read, read_v1, read_value, read_value_v1, same, sub, take_apart, write,
+    proper, read, read_v1, same, sub, take_apart, write,
 };
-use asl_tree::{Tree, to_text, to_value};
-use serde_json::Value;
+use asl_tree::{Tree, to_text};
 use std::alloc::Global;
 use std::process::Abort;
 
@@ -224,11 +223,6 @@ fn tree(rt: &impl Abort, alloc: Global, text: &str) -> Tree {
 
 fn shape(rt: &impl Abort, alloc: Global, text: &str) -> Shape {
     read(alloc, &tree(rt, alloc, text)).expect(rt, "a shape")
-}
-
-/// The JSON value in the text.
-fn value(rt: &impl Abort, alloc: Global, text: &str) -> Value {
-    to_value(alloc, &tree(rt, alloc, text)).expect(rt, "a value")
 }
 
 /// The compact text of the tree that is written for the shape.
@@ -624,18 +618,9 @@ const FIRST_VERSION: Table = Table {
 "#,
 };
 
-/// Why the spelling in a tree is refused in the first version of certificates, or `none`.
+/// Why the spelling is refused in the first version of certificates, or `none`.
 fn refusal_v1(rt: &impl Abort, alloc: Global, text: &str) -> String {
     refusal_text(rt, alloc, read_v1(alloc, &tree(rt, alloc, text)).err())
-}
-
-/// The same of the spelling in a JSON value.
-fn value_refusal_v1(rt: &impl Abort, alloc: Global, text: &str) -> String {
-    refusal_text(
-        rt,
-        alloc,
-        read_value_v1(alloc, &value(rt, alloc, text)).err(),
-    )
 }
 
 /// The spelling is read in the first version of certificates, or refused for this reason.
@@ -646,7 +631,6 @@ impl Rows for RefusedByVersion {
     fn expect(&mut self, rt: &impl Abort, alloc: Global, row: Row) {
         let (text, wanted) = two(rt, row);
         expect_text(rt, refusal_v1(rt, alloc, text), wanted, &[text]);
-        expect_text(rt, value_refusal_v1(rt, alloc, text), wanted, &[text]);
     }
 }
 
@@ -655,15 +639,9 @@ fn lists_of_types_by_version(rt: HostRuntime) {
     each_row(&rt, rt.alloc(), &FIRST_VERSION, &mut RefusedByVersion);
 }
 
-/// Whether the shape in a tree is the same in the first version of certificates.
+/// Whether the shape is the same in the first version of certificates.
 fn is_read_alike(rt: &impl Abort, alloc: Global, text: &str) -> bool {
     let first = read_v1(alloc, &tree(rt, alloc, text)).expect(rt, "a shape");
-    same(&first, &shape(rt, alloc, text))
-}
-
-/// The same of the shape in a JSON value.
-fn is_value_read_alike(rt: &impl Abort, alloc: Global, text: &str) -> bool {
-    let first = read_value_v1(alloc, &value(rt, alloc, text)).expect(rt, "a shape");
     same(&first, &shape(rt, alloc, text))
 }
 
@@ -676,7 +654,6 @@ impl Rows for AlikeByVersion {
         let (text, refusal) = two(rt, row);
         if refusal == "none" {
             expect_answer(rt, is_read_alike(rt, alloc, text), true, &[text]);
-            expect_answer(rt, is_value_read_alike(rt, alloc, text), true, &[text]);
         }
     }
 }
@@ -684,14 +661,6 @@ impl Rows for AlikeByVersion {
 #[test]
 fn shapes_of_the_first_version(rt: HostRuntime) {
     each_row(&rt, rt.alloc(), &FIRST_VERSION, &mut AlikeByVersion);
-}
-
-#[test]
-fn values_are_read_as_trees(rt: HostRuntime) {
-    let alloc = rt.alloc();
-    let text = r#"{"type":["string","null"]}"#;
-    let of_value = read_value(alloc, &value(&rt, alloc, text)).expect(&rt, "a shape");
-    assert!(rt; same(&shape(&rt, alloc, text), &of_value));
 }
 
 /// The shape with the parts whose spellings stand apart by ` + `; no text is no part.

@@ -2,18 +2,19 @@
 ghost use Rattle.std.specs.Prelude.{◌≡◌, ◌++◌, ◌∷◌, [], IfOk, None, map};
 ghost use Rattle.serde_json.specs.Data.{Data};
 ghost use Rattle.serde_json.specs.View.{view};
-ghost use Rattle.asl_model.specs.Json.{ReadsAsValue, tree_of};
+ghost use Rattle.asl_model.specs.Json.{ReadsAsTree, ReadsAsValue, tree_of};
 ghost use Rattle.asl_model.specs.Names.{Bytes};
 ghost use Rattle.asl_model.specs.Records.{HasDeclaredFault};
 ghost use Rattle.asl_model.specs.Texts.{IsNoJson};
 ghost use Rattle.asl_records.specs.Refusal.{Tells};
 ghost use Rattle.asl_lint.specs.Reading.{IsDeclaration, IsDefinition, IsValueOf};
 ghost use Rattle.asl_problems.specs.Told.{told_by};
+ghost use Rattle.asl_tree.specs.View.{view as tree_view};
 
 use asl_machine::Machine;
 use asl_problems::{Problem, Which, problems_of_value};
 use asl_records::{Declared, ReadFault, RecordRefusal, read_declared};
-use asl_tree::{OutOfMemory, TreeRefusal, read_value};
+use asl_tree::{OutOfMemory, Tree, TreeRefusal, read_value};
 use serde_json::Value;
 use std::alloc::Global;
 
@@ -81,10 +82,11 @@ fn refused_value(alloc: Global, value: &Value) -> Result<Definition, OutOfMemory
 pub(crate) fn read_declaration(alloc: Global, text: &[u8]) -> Result<Declaration, OutOfMemory>
     ensures { IfOk result (IsDeclaration text.now) }
 {
-    let value = json_value(alloc, text)?;
-    match value {
-        Some(value) => declaration_of(alloc, value),
-        None => no_declaration(),
+    match asl_tree::read(alloc, text) {
+        Ok(tree) => declaration_of(alloc, &tree),
+        Err(TreeRefusal::NotJson) => no_declaration(),
+        Err(TreeRefusal::NotWhole) => not_whole_declaration(),
+        Err(TreeRefusal::OutOfMemory) => Err(OutOfMemory),
     }
 }
 
@@ -96,13 +98,13 @@ fn no_declaration() -> Result<Declaration, OutOfMemory>
     Ok(Declaration::Refused(problem))
 }
 
-/// The declared shapes that a value is.
-fn declaration_of(alloc: Global, value: Value) -> Result<Declaration, OutOfMemory>
-    ensures { (text : Bytes) → ReadsAsValue text (view value) → IfOk result (IsDeclaration text) }
+/// The declared shapes that a tree stands for.
+fn declaration_of(alloc: Global, tree: &Tree) -> Result<Declaration, OutOfMemory>
+    ensures { (text : Bytes) → ReadsAsTree text (tree_view tree.now)
+        → IfOk result (IsDeclaration text) }
 {
-    match read_declared(alloc, value) {
+    match read_declared(alloc, tree) {
         Ok(declared) => Ok(Declaration::Declared(declared)),
-        Err(ReadFault::NotWhole) => not_whole_declaration(),
         Err(ReadFault::Record(refusal)) => refused_declaration(refusal),
         Err(ReadFault::OutOfMemory) => Err(OutOfMemory),
     }

@@ -3,16 +3,12 @@ use Rattle.std.proofs.Common.{◌≡◌, ℕ, zero, suc, List, [], ◌∷◌, �
 use Rattle.std.specs.Prelude.{option_to_list, IfOk, IfErr, IfSome}
 use Rattle.std.specs.List.{Contains}
 use Rattle.std.proofs.lemmas.List.Elements.{Contains-append_left, Contains-append_right, Contains-append_cases}
-use Rattle.asl_model.specs.Json.{tree_of, value_of}
 use Rattle.asl_model.specs.Shape as model
 use Rattle.asl_model.specs.ShapeSpelling.{ShapeFault, SpellsShape, SpellsShapeV1, shape_faults, element_shapes, element_faults, field_shapes, field_faults, with_all_needed}
 use Rattle.asl_model.specs.Tree.{Tree, Trees, NoTrees, AndTree, Fields, NoFields, AndField}
 use Rattle.asl_shape.specs.Level.{Level, Whole, OfTypes, ListLevel, ObjectLevel, arrays_over, objects_over, shape_over, list_inner_faults, object_inner_faults, inner_faults, rest_shape, rest_faults}
 use Rattle.asl_shape.specs.Refusal.{SpellsAs}
-use Rattle.asl_shape.specs.Spelled.{spelled}
-use Rattle.asl_tree.proofs.Values.{whole-tree_of as spelled-tree_of, whole-value_of as spelled-value_of}
 use Rattle.asl_shape.proofs.Wholes.{both_none, level_within}
-use Rattle.serde_json.specs.Data.{Data}
 use Rattle.asl_numbered.specs.declared.NumberedRefusal.{NumberedRefusal}
 use Rattle.asl_numbered.specs.declared.NumberedRefusal.TheVariants as refusal
 use Rattle.asl_numbered.specs.Expansion.{shape_at}
@@ -145,16 +141,3 @@ as_spelled_v1 new t (Err e) h = tt
 pub refused_alone : (several : Bool) (old : List model.Shape) (given : Option (Bor (List ℕ))) (t : Tree) (r : Result ℕ NumberedRefusal) → given ≡ None → IfErr r (TellsOf several (shapes_given old given) t) → IfErr r (TellsFault several t)
 refused_alone several old given t (Ok n) none h = tt
 refused_alone several old given t (Err e) none h = tells_plain several t e (subst (λ gs. TellsOf several gs t e) (none_given old given none) h)
-
--- of the value that a tree is, the tree itself
-pub same_tree : (t : Tree) (v : Data) → v ≡ value_of t → spelled v ≡ t
-same_tree t v is = ap spelled is ∙ spelled-value_of t
-
--- of a value, the tree that it is
-pub if_tree_ok : (P : Tree → ℕ → Type 0) (v : Data) (r : Result ℕ NumberedRefusal) → IfOk r (P (spelled v)) → IfOk r (λ n. (t : Tree) → tree_of v ≡ Some t → P t n)
-if_tree_ok P v (Ok n) h = λ t is. subst (λ u. P u n) (spelled-tree_of v t is) h
-if_tree_ok P v (Err e) h = tt
-
-pub if_tree_err : (P : Tree → NumberedRefusal → Type 0) (v : Data) (r : Result ℕ NumberedRefusal) → IfErr r (P (spelled v)) → IfErr r (λ e. (t : Tree) → tree_of v ≡ Some t → P t e)
-if_tree_err P v (Ok n) h = tt
-if_tree_err P v (Err e) h = λ t is. subst (λ u. P u e) (spelled-tree_of v t is) h

@@ -23,7 +23,7 @@ use Rattle.asl_shape.specs.Refusal.{Tells}
 use Rattle.asl_shape.specs.Spelled as trees
 use Rattle.asl_shape.specs.declared.ShapeRefusal.{ShapeRefusal}
 use Rattle.asl_shape.specs.declared.ShapeRefusal.TheVariants.{NotAShape, Keyword, BadType, MinItems, OutOfMemory}
-use Rattle.serde_json.specs.declared.value.Value.{Value}
+use Rattle.asl_tree.specs.declared.Tree.{Tree as CodeTree}
 use Rattle.asl_numbered.specs.declared.node.Node.{Node}
 use Rattle.asl_numbered.specs.declared.node.Node.TheVariants.{List as Elements, Object}
 use Rattle.asl_numbered.specs.declared.node.NodeField.{NodeField}
@@ -112,12 +112,12 @@ reference_told several table given t is =
     record { said = record { place = t; there = is_itself; wrong = referred_shape table given t ∙ ap (option_map (option_map (shape_at table))) is } }
 
 -- the one field of an object
-pub alone : (es : List (String Global × Value)) (o : Option (Bor Value)) → length es ≡ 1 → option_copied o ≡ lookup (is_at (λ k. slice_cmp nat_cmp (codes "shape") (string_bytes k))) es → trees.value_there o ≡ reference_among (trees.entries_view es)
+pub alone : (es : List (String Global × CodeTree)) (o : Option (Bor CodeTree)) → length es ≡ 1 → option_copied o ≡ lookup (is_at (λ k. slice_cmp nat_cmp (codes "shape") (string_bytes k))) es → trees.tree_there o ≡ reference_among (trees.entries_view es)
 alone [] o one is = absurd (omega (arith, one))
 alone (e ∷ []) o one is = member_named_lookup (codes "shape") (e ∷ []) o is
 alone (e ∷ f ∷ es) o one is = absurd (omega (arith, one))
 
-pub not_alone : (es : List (String Global × Value)) → (length es ≡ 1 → ⊥) → None ≡ reference_among (trees.entries_view es)
+pub not_alone : (es : List (String Global × CodeTree)) → (length es ≡ 1 → ⊥) → None ≡ reference_among (trees.entries_view es)
 not_alone [] more = refl
 not_alone (e ∷ []) more = absurd (more refl)
 not_alone (e ∷ f ∷ es) more = refl
@@ -204,7 +204,7 @@ contains_first : (t : Tree) (ts : List Tree) → Contains (t ∷ ts) t
 contains_first t ts = (0, omega arith, refl)
 
 -- the element at a place is one of them
-pub element_there : (i : ℕ) (vs left : List Value) (v : Value) → drop i vs ≡ v ∷ left → Contains (each_of (trees.elements_view vs)) (trees.view v)
+pub element_there : (i : ℕ) (vs left : List CodeTree) (v : CodeTree) → drop i vs ≡ v ∷ left → Contains (each_of (trees.elements_view vs)) (trees.view v)
 element_there zero vs left v split = subst (λ us. Contains (each_of (trees.elements_view us)) (trees.view v)) (sym split) (contains_first (trees.view v) (each_of (trees.elements_view left)))
 element_there (suc i) [] left v split = absurd (cc)
 element_there (suc i) (u ∷ vs) left v split = Contains-append_right (trees.view u ∷ []) (each_of (trees.elements_view vs)) (trees.view v) (element_there i vs left v split)
@@ -222,7 +222,7 @@ unfolding push_tree push_shape
 each_push no_element own = and_element own no_element
 each_push (and_element h others) own = and_element h (each_push others own)
 
-elements_pushed : (vs : List Value) (v : Value) → trees.elements_view (vs ++ v ∷ []) ≡ push_tree (trees.elements_view vs) (trees.view v)
+elements_pushed : (vs : List CodeTree) (v : CodeTree) → trees.elements_view (vs ++ v ∷ []) ≡ push_tree (trees.elements_view vs) (trees.view v)
 unfolding push_tree
 elements_pushed [] v = refl
 elements_pushed (u ∷ vs) v = ap (AndTree (trees.view u)) (elements_pushed vs v)
@@ -240,7 +240,7 @@ numbers_grown several given ts old new ns keeps are =
     let kept : AreNumbersOf new (shapes_at old ns) ns = numbers_kept old new (shapes_at old ns) ns keeps (record { within = are.within; same = refl }) in
     record { within = kept.within; spelled = subst (SpellEach several given ts) (sym kept.same) are.spelled }
 
-pub number_read : (several : Bool) (given : Option (List model.Shape)) (old new : List model.Shape) (before after : List Value) (v : Value) (ns ms : List ℕ) (n : ℕ) → Keeps old new → AreRead several given (trees.elements_view before) old ns → IsRead several given (trees.view v) new n → after ≡ before ++ v ∷ [] → ms ≡ ns ++ n ∷ [] → AreRead several given (trees.elements_view after) new ms
+pub number_read : (several : Bool) (given : Option (List model.Shape)) (old new : List model.Shape) (before after : List CodeTree) (v : CodeTree) (ns ms : List ℕ) (n : ℕ) → Keeps old new → AreRead several given (trees.elements_view before) old ns → IsRead several given (trees.view v) new n → after ≡ before ++ v ∷ [] → ms ≡ ns ++ n ∷ [] → AreRead several given (trees.elements_view after) new ms
 number_read several given old new before after v ns ms n keeps are read more also =
     let now = numbers_grown several given (trees.elements_view before) old new ns keeps are in
     rw (more, also) (record {
@@ -248,7 +248,7 @@ number_read several given old new before after v ns ms n keeps are read more als
       spelled = rw (elements_pushed before v, shapes_pushed new ns n) (each_push now.spelled read.spelled);
     })
 
-pub numbers_end : (several : Bool) (given : Option (List model.Shape)) (table : List model.Shape) (i : ℕ) (vs : List Value) (ns : List ℕ) → length vs ≤ i → AreRead several given (trees.elements_view (take i vs)) table ns → AreRead several given (trees.elements_view vs) table ns
+pub numbers_end : (several : Bool) (given : Option (List model.Shape)) (table : List model.Shape) (i : ℕ) (vs : List CodeTree) (ns : List ℕ) → length vs ≤ i → AreRead several given (trees.elements_view (take i vs)) table ns → AreRead several given (trees.elements_view vs) table ns
 numbers_end several given table i vs ns past are = subst (λ us. AreRead several given (trees.elements_view us) table ns) (take_all i vs past) are
 
 pub list_refers : (several : Bool) (given : Option (List model.Shape)) (first : Trees) (rest : Option Tree) (middle now : List Node) (ns : Vec ℕ Global) (n : ℕ) → Keeps (expansions middle) (expansions now) → AreRead several given first (expansions middle) ns.items → IsReadRest several given rest (expansions now) n → RefersBelow (length now) (Elements ns n)
@@ -271,10 +271,10 @@ rest_answer several given t table (Err e) read = tt
 
 -- ---- the parts of an object
 
-pub member_there : (all done now left : List (String Global × Value)) (e : String Global × Value) → all ≡ done ++ now → now ≡ e ∷ left → Contains (values_of (trees.entries_view all)) (trees.view e.1)
+pub member_there : (all done now left : List (String Global × CodeTree)) (e : String Global × CodeTree) → all ≡ done ++ now → now ≡ e ∷ left → Contains (values_of (trees.entries_view all)) (trees.view e.1)
 member_there all done now left e split next = subst (λ es. Contains (values_of (trees.entries_view es)) (trees.view e.1)) (sym (split ∙ ap (λ es. done ++ es) next)) (go done)
   where
-    go : (before : List (String Global × Value)) → Contains (values_of (trees.entries_view (before ++ e ∷ left))) (trees.view e.1)
+    go : (before : List (String Global × CodeTree)) → Contains (values_of (trees.entries_view (before ++ e ∷ left))) (trees.view e.1)
     go [] = contains_first (trees.view e.1) (values_of (trees.entries_view left))
     go (m ∷ before) = Contains-append_right (trees.view m.1 ∷ []) (values_of (trees.entries_view (before ++ e ∷ left))) (trees.view e.1) (go before)
 
@@ -291,7 +291,7 @@ unfolding push_field push_mention
 fields_push n no_field own = and_field own no_field
 fields_push n (and_field h others) own = and_field h (fields_push n others own)
 
-entries_pushed : (es : List (String Global × Value)) (e : String Global × Value) → trees.entries_view (es ++ e ∷ []) ≡ push_field (trees.entries_view es) (string_bytes e.0) (trees.view e.1)
+entries_pushed : (es : List (String Global × CodeTree)) (e : String Global × CodeTree) → trees.entries_view (es ++ e ∷ []) ≡ push_field (trees.entries_view es) (string_bytes e.0) (trees.view e.1)
 unfolding push_field
 entries_pushed [] e = refl
 entries_pushed (m ∷ es) e = ap (AndField (string_bytes m.0) (trees.view m.1)) (entries_pushed es e)
@@ -309,7 +309,7 @@ fields_grown several given fs old new es keeps are =
     let kept : AreFieldsOf new (fields_at old es) es = fields_kept old new (fields_at old es) es keeps (record { within = are.within; same = refl }) in
     record { within = kept.within; spelled = subst (SpellFields several given fs) (sym kept.same) are.spelled }
 
-pub field_read : (several : Bool) (given : Option (List model.Shape)) (old new : List model.Shape) (done left : List (String Global × Value)) (e : String Global × Value) (es fs : List (String Global × NodeField)) (k : String Global) (f : NodeField) → IsStrictlySortedBy string_cmp (keys_of (done ++ e ∷ left)) → Keeps old new → names es ≡ names done → AreFieldsRead several given (trees.entries_view done) old es → string_bytes k ≡ string_bytes e.0 → f.needed ≡ false → IsRead several given (trees.view e.1) new f.shape → fs ≡ insert_entry string_cmp es k f → (names fs ≡ names (done ++ e ∷ [])) × AreFieldsRead several given (trees.entries_view (done ++ e ∷ [])) new fs
+pub field_read : (several : Bool) (given : Option (List model.Shape)) (old new : List model.Shape) (done left : List (String Global × CodeTree)) (e : String Global × CodeTree) (es fs : List (String Global × NodeField)) (k : String Global) (f : NodeField) → IsStrictlySortedBy string_cmp (keys_of (done ++ e ∷ left)) → Keeps old new → names es ≡ names done → AreFieldsRead several given (trees.entries_view done) old es → string_bytes k ≡ string_bytes e.0 → f.needed ≡ false → IsRead several given (trees.view e.1) new f.shape → fs ≡ insert_entry string_cmp es k f → (names fs ≡ names (done ++ e ∷ [])) × AreFieldsRead several given (trees.entries_view (done ++ e ∷ [])) new fs
 field_read several given old new done left e es fs k f sorted keeps same are named needed read inserted =
     let now = fields_grown several given (trees.entries_view done) old new es keeps are in
     let last : fs ≡ es ++ (k, f) ∷ [] = inserted ∙ appended done e left es k f sorted same named in (

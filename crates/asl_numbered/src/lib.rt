@@ -6,8 +6,8 @@
 //! [`Shapes::add_kinds`] the number of the shape of some [`KindNumbers`]. [`Shapes::inhabited`] tells whether some tree has
 //! the shape, and [`Shapes::example`] makes one. [`Shapes::sub`] tells whether one shape is inside another, and
 //! [`Shapes::outside`] makes a tree of the first that lacks the second. [`Shapes::join`] gives the number of a shape that
-//! two shapes are inside. [`Shapes::read_with`] reads a shape from the tree that spells it, [`Shapes::read_value_with`]
-//! from the JSON value that this tree is; there `{"shape": n}` may stand for shapes of the table.
+//! two shapes are inside. [`Shapes::read_with`] reads a shape from the tree that spells it, where `{"shape": n}` may stand
+//! for shapes of the table.
 #![tactic(auto)]
 
 ghost use Rattle.std.specs.Prelude.{◌≡◌};

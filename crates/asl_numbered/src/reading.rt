@@ -6,73 +6,67 @@ ghost use Rattle.asl_model.specs.ShapeSpelling as model;
 ghost use Rattle.asl_shape.specs.Level as levels;
 ghost use Rattle.asl_shape.specs.LevelView.{level_view, list_view, object_view, texts};
 ghost use Rattle.asl_shape.specs.Spelled as trees;
-ghost use Rattle.asl_shape.specs.Spelled.{spelled};
 ghost use Rattle.asl_numbered.specs.Expansion.{expansions, shape_over, fields_at, RefersBelow, numbers_in, AreBelow, AreFieldsOf, Keeps};
 ghost use Rattle.asl_numbered.specs.Kinds.{IsProperNode};
 ghost use Rattle.asl_numbered.specs.Reading.{AreGiven, IsRead, IsReadOver, AreArraysRead, AreObjectsRead, IsReadRest, AreRead, AreFieldsRead, TellsOneOf};
 ghost use Rattle.asl_model.specs.References.{element_at, meant_by};
 ghost use Rattle.asl_numbered.specs.References.{reference_in, referred as referred_in, numbers_given, shapes_given, inside, list_inside, object_inside, each_of, values_of, TellsOf};
-ghost use Rattle.serde_json.specs.Data.{number};
-ghost use Rattle.serde_json.specs.View.{number_view};
 
 use crate::NumberedRefusal;
 use crate::kinds::{KindNumbers, put_kinds};
 use crate::node::{Node, NodeField};
 use crate::table::Table;
 use asl_shape::{Level, ListLevel, ObjectLevel, read_level};
-use asl_tree::OutOfMemory;
-use serde_json::{Map, Number, Value};
+use asl_tree::{OutOfMemory, Tree};
 use std::alloc::Global;
 use std::collections::BTreeMap;
 
-/// The number of the shape that the value spells, where `{"shape": n}` stands for the shape of the number that is given
+/// The number of the shape that the tree spells, where `{"shape": n}` stands for the shape of the number that is given
 /// at `n`, if numbers are given; `several` says whether lists of types may stand.
 #[cycle(read)]
 pub(crate) fn read(
     table: &mut Table,
     alloc: Global,
-    value: &Value,
+    tree: &Tree,
     given: Option<&[usize]>,
     several: bool,
 ) -> Result<usize, NumberedRefusal>
     requires { AreGiven (length table.old) (numbers_given given) }
     ensures number { IfOk result
-        (IsRead several (shapes_given (expansions table.old) given.entry) (trees.view value.now)
+        (IsRead several (shapes_given (expansions table.old) given.entry) (trees.view tree.now)
         (expansions table.new)) }
     ensures refused { IfErr result
-        (TellsOf several (shapes_given (expansions table.old) given.entry) (trees.view value.now)) }
+        (TellsOf several (shapes_given (expansions table.old) given.entry) (trees.view tree.now)) }
     ensures keeps { Keeps (expansions table.old) (expansions table.new) }
 {
-    match referred(value, given) {
-        None => read_spelling(table, alloc, value, given, several),
+    match referred(tree, given) {
+        None => read_spelling(table, alloc, tree, given, several),
         Some(Some(number)) => Ok(number),
         Some(None) => Err(NumberedRefusal::BadNumber),
     }
 }
 
-// The number that a reference stands for, where numbers are given and the value is a reference.
-fn referred(value: &Value, given: Option<&[usize]>) -> Option<Option<usize>>
-    ensures { result ≡ referred_in (numbers_given given.entry) (trees.view value.now) }
+// The number that a reference stands for, where numbers are given and the tree is a reference.
+fn referred(tree: &Tree, given: Option<&[usize]>) -> Option<Option<usize>>
+    ensures { result ≡ referred_in (numbers_given given.entry) (trees.view tree.now) }
 {
     let numbers = given?;
-    let stated = reference(value)?;
+    let stated = reference(tree)?;
     Some(meant(stated, numbers))
 }
 
 // What stands in a reference.
-fn reference(value: &Value) -> Option<&Value>
-    ensures { trees.value_there result ≡ reference_in (trees.view value.now) }
+fn reference(tree: &Tree) -> Option<&Tree>
+    ensures { trees.tree_there result ≡ reference_in (trees.view tree.now) }
 {
-    match value {
-        Value::Object(members) => reference_among(members),
-        Value::Null | Value::Bool(_) | Value::Number(_) | Value::String(_) | Value::Array(_) => {
-            None
-        }
+    match tree {
+        Tree::Object(members) => reference_among(members),
+        Tree::Null | Tree::Bool(_) | Tree::Int(_) | Tree::Text(_) | Tree::List(_) => { None }
     }
 }
 
-fn reference_among(members: &Map<String, Value>) -> Option<&Value>
-    ensures { trees.value_there result
+fn reference_among(members: &BTreeMap<String, Tree>) -> Option<&Tree>
+    ensures { trees.tree_there result
         ≡ reference_in (json.Object (trees.entries_view members.now.entries)) }
 {
     if members.len() == 1 {
@@ -82,28 +76,17 @@ fn reference_among(members: &Map<String, Value>) -> Option<&Value>
     }
 }
 
-// The number that stands where a value says.
-fn meant(stated: &Value, numbers: &[usize]) -> Option<usize>
+// The number that stands where a tree says.
+fn meant(stated: &Tree, numbers: &[usize]) -> Option<usize>
     ensures { result ≡ meant_by numbers.now (trees.view stated.now) }
 {
     match stated {
-        Value::Number(place) => number_at(place, numbers),
-        Value::Null | Value::Bool(_) | Value::String(_) | Value::Array(_) | Value::Object(_) => {
-            None
-        }
+        Tree::Int(place) => entry_at(*place, numbers),
+        Tree::Null | Tree::Bool(_) | Tree::Text(_) | Tree::List(_) | Tree::Object(_) => { None }
     }
 }
 
-fn number_at(place: &Number, numbers: &[usize]) -> Option<usize>
-    ensures { result ≡ meant_by numbers.now (spelled (number (number_view place.now))) }
-{
-    match place.as_i128() {
-        Some(place) => entry_at(place, numbers),
-        None => None,
-    }
-}
-
-fn entry_at(place: i128, numbers: &[usize]) -> Option<usize>
+fn entry_at(place: i64, numbers: &[usize]) -> Option<usize>
     ensures { result ≡ element_at numbers.now place }
 {
     if place >= 0 && (place as u128) < numbers.len() as u128 {
@@ -113,25 +96,25 @@ fn entry_at(place: i128, numbers: &[usize]) -> Option<usize>
     }
 }
 
-// The number of the shape of a value that is no reference.
+// The number of the shape of a tree that is no reference.
 #[cycle(read)]
 fn read_spelling(
     table: &mut Table,
     alloc: Global,
-    value: &Value,
+    tree: &Tree,
     given: Option<&[usize]>,
     several: bool,
 ) -> Result<usize, NumberedRefusal>
     requires given { AreGiven (length table.old) (numbers_given given) }
-    requires spelled { referred_in (numbers_given given) (trees.view value.now) ≡ None }
+    requires spelled { referred_in (numbers_given given) (trees.view tree.now) ≡ None }
     ensures number { IfOk result
-        (IsRead several (shapes_given (expansions table.old) given.entry) (trees.view value.now)
+        (IsRead several (shapes_given (expansions table.old) given.entry) (trees.view tree.now)
         (expansions table.new)) }
     ensures refused { IfErr result
-        (TellsOf several (shapes_given (expansions table.old) given.entry) (trees.view value.now)) }
+        (TellsOf several (shapes_given (expansions table.old) given.entry) (trees.view tree.now)) }
     ensures keeps { Keeps (expansions table.old) (expansions table.new) }
 {
-    let level = read_level(alloc, value, several)?;
+    let level = read_level(alloc, tree, several)?;
     read_over(table, alloc, level, given, several)
 }
 
@@ -211,7 +194,7 @@ fn read_list(
 fn read_elements(
     table: &mut Table,
     alloc: Global,
-    elements: &[Value],
+    elements: &[Tree],
     given: Option<&[usize]>,
     several: bool,
 ) -> Result<Vec<usize>, NumberedRefusal>
@@ -237,22 +220,22 @@ fn read_elements(
 fn read_rest(
     table: &mut Table,
     alloc: Global,
-    rest: Option<&Value>,
+    rest: Option<&Tree>,
     given: Option<&[usize]>,
     several: bool,
 ) -> Result<usize, NumberedRefusal>
     requires { AreGiven (length table.old) (numbers_given given) }
     ensures number { IfOk result
         (IsReadRest several (shapes_given (expansions table.old) given.entry)
-        (trees.value_there rest.entry) (expansions table.new)) }
+        (trees.tree_there rest.entry) (expansions table.new)) }
     ensures refused { IfErr result
         (TellsOneOf several (shapes_given (expansions table.old) given.entry)
-        (option_to_list (trees.value_there rest.entry))) }
+        (option_to_list (trees.tree_there rest.entry))) }
     ensures keeps { Keeps (expansions table.old) (expansions table.new) }
 {
     match rest {
         None => Ok(table.put(Node::Any)?),
-        Some(value) => read(table, alloc, value, given, several),
+        Some(tree) => read(table, alloc, tree, given, several),
     }
 }
 
@@ -288,17 +271,17 @@ fn read_object(
 fn read_properties(
     table: &mut Table,
     alloc: Global,
-    properties: Option<&Map<String, Value>>,
+    properties: Option<&BTreeMap<String, Tree>>,
     given: Option<&[usize]>,
     several: bool,
 ) -> Result<BTreeMap<String, NodeField>, NumberedRefusal>
     requires { AreGiven (length table.old) (numbers_given given) }
     ensures fields { IfOk result
         (λ m. AreFieldsRead several (shapes_given (expansions table.old) given.entry)
-        (trees.entries_there properties.entry) (expansions table.new) m.entries) }
+        (trees.fields_there properties.entry) (expansions table.new) m.entries) }
     ensures refused { IfErr result
         (TellsOneOf several (shapes_given (expansions table.old) given.entry)
-        (values_of (trees.entries_there properties.entry))) }
+        (values_of (trees.fields_there properties.entry))) }
     ensures keeps { Keeps (expansions table.old) (expansions table.new) }
 {
     match properties {
@@ -311,7 +294,7 @@ fn read_properties(
 fn read_members(
     table: &mut Table,
     alloc: Global,
-    members: &Map<String, Value>,
+    members: &BTreeMap<String, Tree>,
     given: Option<&[usize]>,
     several: bool,
 ) -> Result<BTreeMap<String, NodeField>, NumberedRefusal>

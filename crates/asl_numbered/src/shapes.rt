@@ -7,12 +7,9 @@ ghost use Rattle.asl_model.specs.Shape as model;
 ghost use Rattle.asl_model.specs.ShapeOrder as order;
 ghost use Rattle.asl_model.specs.ShapeSpelling.{SpellsShape, SpellsShapeV1};
 ghost use Rattle.asl_model.specs.Tree as json;
-ghost use Rattle.asl_model.specs.Json.{tree_of};
 ghost use Rattle.asl_shape.specs.Properness.{is_proper};
 ghost use Rattle.asl_shape.specs.View.{view};
-ghost use Rattle.asl_shape.specs.Spelled as trees;
 ghost use Rattle.asl_tree.specs.View.{view as tree_view};
-ghost use Rattle.serde_json.specs.View.{view as value_view};
 ghost use Rattle.asl_numbered.specs.Expansion.{shape_at, shape_over, AreBelow, AreDistinct, RefersBelow, IsNumberOf, Keeps};
 ghost use Rattle.asl_numbered.specs.Kinds.{IsProperNode};
 ghost use Rattle.asl_numbered.specs.References.{shapes_given, SpellsWith, TellsOf, TellsFault};
@@ -38,7 +35,6 @@ use asl_model::shape_laws::{
 use asl_shape::Shape;
 use asl_tree::{OutOfMemory, Tree};
 use indexmap::IndexMap;
-use serde_json::Value;
 use std::alloc::Global;
 use std::marker::Model;
 
@@ -348,8 +344,7 @@ impl Shapes {
             → IfErr result (TellsFault true (tree_view tree.now)) }
         ensures keeps { Keeps self.old self.new }
     {
-        let value = asl_tree::to_value(self.alloc, tree)?;
-        self.read_spelled(&value, given, true)
+        self.read_spelled(tree, given, true)
     }
 
     /// The number of the shape that the tree spells where lists of types may not stand, as in certificates of version 1: as
@@ -372,67 +367,13 @@ impl Shapes {
             → IfErr result (TellsFault false (tree_view tree.now)) }
         ensures keeps { Keeps self.old self.new }
     {
-        let value = asl_tree::to_value(self.alloc, tree)?;
-        self.read_spelled(&value, given, false)
+        self.read_spelled(tree, given, false)
     }
 
-    /// The number of the shape that the tree spells that a JSON value is, as [`Shapes::read_with`] tells it, with no tree
-    /// made of it.
-    ///
-    /// Of a value with a number that isn't whole, which is no tree, the answer says no more than that it is a number.
-    pub fn read_value_with(
-        &mut self,
-        value: &Value,
-        given: Option<&[usize]>,
-    ) -> Result<usize, NumberedRefusal>
-        requires given { IfSome given (λ ns. AreBelow (length self.old) ns.now) }
-        ensures number { IfOk result (λ n. IsNumberOf self.new (shape_at self.new n) n) }
-        ensures spelled { IfOk result
-            (λ n. (t : json.Tree) → tree_of (value_view value.now) ≡ Some t
-            → SpellsWith true (shapes_given self.old given.entry) t (shape_at self.new n)) }
-        ensures spelled_alone { given.entry ≡ None → IfOk result
-            (λ n. (t : json.Tree) → tree_of (value_view value.now) ≡ Some t
-            → SpellsShape t (shape_at self.new n)) }
-        ensures refused { IfErr result
-            (λ e. (t : json.Tree) → tree_of (value_view value.now) ≡ Some t
-            → TellsOf true (shapes_given self.old given.entry) t e) }
-        ensures refused_alone { given.entry ≡ None → IfErr result
-            (λ e. (t : json.Tree) → tree_of (value_view value.now) ≡ Some t
-            → TellsFault true t e) }
-        ensures keeps { Keeps self.old self.new }
-    {
-        self.read_spelled(value, given, true)
-    }
-
-    /// The same as [`Shapes::read_with_v1`] tells it.
-    pub fn read_value_with_v1(
-        &mut self,
-        value: &Value,
-        given: Option<&[usize]>,
-    ) -> Result<usize, NumberedRefusal>
-        requires given { IfSome given (λ ns. AreBelow (length self.old) ns.now) }
-        ensures number { IfOk result (λ n. IsNumberOf self.new (shape_at self.new n) n) }
-        ensures spelled { IfOk result
-            (λ n. (t : json.Tree) → tree_of (value_view value.now) ≡ Some t
-            → SpellsWith false (shapes_given self.old given.entry) t (shape_at self.new n)) }
-        ensures spelled_alone { given.entry ≡ None → IfOk result
-            (λ n. (t : json.Tree) → tree_of (value_view value.now) ≡ Some t
-            → SpellsShapeV1 t (shape_at self.new n)) }
-        ensures refused { IfErr result
-            (λ e. (t : json.Tree) → tree_of (value_view value.now) ≡ Some t
-            → TellsOf false (shapes_given self.old given.entry) t e) }
-        ensures refused_alone { given.entry ≡ None → IfErr result
-            (λ e. (t : json.Tree) → tree_of (value_view value.now) ≡ Some t
-            → TellsFault false t e) }
-        ensures keeps { Keeps self.old self.new }
-    {
-        self.read_spelled(value, given, false)
-    }
-
-    /// The same of the tree by which the value is read; `several` says whether lists of types may stand.
+    /// The number of the shape that the tree spells; `several` says whether lists of types may stand.
     fn read_spelled(
         &mut self,
-        value: &Value,
+        tree: &Tree,
         given: Option<&[usize]>,
         several: bool,
     ) -> Result<usize, NumberedRefusal>
@@ -440,12 +381,12 @@ impl Shapes {
         ensures number { IfOk result (λ n. IsNumberOf self.new (shape_at self.new n) n) }
         ensures spelled { IfOk result
             (λ n. SpellsWith several (shapes_given self.old given.entry)
-            (trees.view value.now) (shape_at self.new n)) }
+            (tree_view tree.now) (shape_at self.new n)) }
         ensures refused { IfErr result
-            (TellsOf several (shapes_given self.old given.entry) (trees.view value.now)) }
+            (TellsOf several (shapes_given self.old given.entry) (tree_view tree.now)) }
         ensures keeps { Keeps self.old self.new }
     {
-        let answer = read(&mut self.table, self.alloc, value, given, several);
+        let answer = read(&mut self.table, self.alloc, tree, given, several);
         self.table.are_distinct();
         answer
     }

@@ -1,12 +1,16 @@
 -- What is wrong with declared shapes, and with the entry of a task, by the parts in which they are read.
-use Rattle.std.proofs.Common.{◌≡◌, ℕ, List, [], ◌∷◌, ◌++◌, codes, Some, unwrap_or, true, false, refl, ⊎_elim, sym, ap, ◌∙◌}
+use Rattle.std.proofs.Common.{◌≡◌, ℕ, List, [], ◌∷◌, ◌++◌, codes, Option, Some, None, option_map, unwrap_or, rules, true, false, refl, ⊎_elim, sym, ap, ◌∙◌}
 use Rattle.std.specs.List.{Contains}
 use Rattle.std.proofs.lemmas.List.Elements.{Contains-append_left, Contains-append_right, Contains-append_cases}
 use Rattle.serde_json.specs.Data as json
 use Rattle.serde_json.specs.Data.{Data, Members}
 use Rattle.serde_json.specs.Find.{as_object, get_member}
-use Rattle.asl_model.specs.Records.{declared_reading, RecordComplaint, declared_rows, task_rows, object_complaints, declared_complaints, entries_complaints, members_under}
-use Rattle.asl_records.specs.Parts.{TellsOneOf, field_complaints, foreign_complaints, shape_row, entries_row, members_there}
+use Rattle.asl_model.specs.Records.{declared_reading, RecordComplaint, declared_rows, task_rows, object_complaints, declared_complaints, declared_from, entries_complaints, entries_from, members_under, task_from}
+use Rattle.asl_model.specs.Shape.{Shape, Any}
+use Rattle.asl_shape.specs.View.{view}
+use Rattle.asl_shape.specs.declared.shape.Shape.{Shape as CodeShape, the_lemmas}
+use Rattle.asl_shape.specs.declared.shape.Shape as code
+use Rattle.asl_records.specs.Parts.{TellsOneOf, field_complaints, foreign_complaints, shape_row, entries_row, members_there, shape_there}
 use Rattle.asl_records.specs.declared.refusals.ReadFault.{ReadFault}
 use Rattle.asl_records.proofs.Objects.{names_of, parts, rows_told_of, shown}
 use Rattle.asl_records.proofs.Telling.{told_all, told_left, told_right, told_same}
@@ -58,6 +62,10 @@ tasks_told v ms f is told =
     as_entry : (c : RecordComplaint) → Contains (of_entries ms) c → Contains ((rows ++ of_others ms) ++ of_entries ms) c
     as_entry c h = Contains-append_right (rows ++ of_others ms) (of_entries ms) c h
 
+-- what stands in it
+pub declared_stand : (v : Data) (ms : Members) → as_object v ≡ Some ms → (record { input = shape_there None (get_member (codes "input") ms); tasks = entries_from task_from (members_there (get_member (codes "tasks") ms)) }) ≡ declared_from v
+declared_stand v ms is = rw is refl
+
 -- ---- the entry of a task
 
 abbrev pub of_takes : List ℕ → Members → List RecordComplaint
@@ -75,3 +83,12 @@ takes_told name v ms f is told = rows_told_of declared_reading name task_rows v 
 pub gives_told : (name : List ℕ) (v : Data) (ms : Members) (f : ReadFault) → as_object v ≡ Some ms → TellsOneOf (of_gives name ms) f → TellsOneOf (object_complaints declared_reading name task_rows v) f
 gives_told name v ms f is told =
     rows_told_of declared_reading name task_rows v ms f is (told_right f (of_takes name ms) (of_gives name ms ++ []) (told_left f (of_gives name ms) [] told))
+
+-- what stands in it
+pub task_stands : (v : Data) (ms : Members) → as_object v ≡ Some ms → (record { takes = shape_there None (get_member (codes "takes") ms); gives = shape_there None (get_member (codes "gives") ms) }) ≡ task_from v
+task_stands v ms is = rw is refl
+
+-- a shape that may be absent, Any where it is
+pub or_any : (o : Option CodeShape) (other : Option Shape) → option_map view o ≡ other → view (unwrap_or o code.Any) ≡ unwrap_or other Any
+or_any None other e = rw (sym e) (search (rules, the_lemmas))
+or_any (Some s) other e = rw (sym e) refl

@@ -1,5 +1,5 @@
 -- Numbers of a table that has grown stand for the same shapes.
-use Rattle.std.proofs.Common.{◌≡◌, ◌<◌, ◌≤◌, ℕ, List, [], ◌∷◌, length, String, Global, refl, ◌∙◌, subst, sym}
+use Rattle.std.proofs.Common.{◌≡◌, ◌<◌, ℕ, List, [], ◌∷◌, length, String, Global, refl, ◌∙◌, subst, sym}
 use Rattle.std.specs.List.{AllByRecursion}
 use Rattle.asl_numbered.specs.Expansion.{Keeps}
 use Rattle.asl_numbered.specs.Laws.{kept_item, kept_item_within, kept_numbers, kept_shape, kept_shapes, kept_within}

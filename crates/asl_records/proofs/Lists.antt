@@ -1,40 +1,23 @@
 -- Reading the elements of a list one after another as shapes of a table.
-use Rattle.std.proofs.Common.{◌≡◌, ℕ, Bool, List, [], ◌∷◌, ◌++◌, map, Bor, Option, Some, None, option_map, option_and_then, is_some, true, refl, sym, ap, subst, ◌∙◌, append-nil, append_assoc}
+use Rattle.std.proofs.Common.{◌≡◌, ℕ, Bool, List, [], ◌∷◌, ◌++◌, map, Bor, Option, refl, sym, ap, subst, ◌∙◌, append-nil, append_assoc}
 use Rattle.std.proofs.lemmas.List.{map-append}
-use Rattle.serde_json.specs.Data as json
-use Rattle.serde_json.specs.Data.{Data, Items}
-use Rattle.serde_json.specs.View.{view, items_view}
-use Rattle.serde_json.specs.declared.value.Value.{Value}
-use Rattle.asl_model.specs.Json.{tree_of, elements_of}
+use Rattle.serde_json.specs.Data.{Items}
 use Rattle.asl_model.specs.Shape.{Shape}
-use Rattle.asl_model.specs.Tree as model
-use Rattle.asl_model.specs.Records.{Reading, shape_misfits, shapes_misfits, shape_from, shapes_from}
+use Rattle.asl_model.specs.Tree.{Trees}
+use Rattle.asl_model.specs.Records.{Reading, shape_from, shape_misfits, shapes_misfits, shapes_from, tree_misfits}
+use Rattle.asl_tree.specs.View.{view, elements_view}
+use Rattle.asl_tree.specs.declared.Tree.{Tree}
 use Rattle.asl_numbered.specs.Expansion.{IsNumberOf, Keeps}
 use Rattle.asl_numbered.specs.Laws.{keeps_same, keeps_trans}
 use Rattle.asl_records.specs.Listed.{AreInTable, ForReading}
 use Rattle.asl_records.specs.Numbering.{AreListOf}
-use Rattle.asl_records.specs.Parts.{TellsOneOf, IsWhole, ElementsAreWhole, complaint_of, shape_complaints, shapes_complaints}
+use Rattle.asl_records.specs.Parts.{TellsOneOf, complaint_of, shapes_complaints, tree_complaints, tree_shape}
+use Rattle.asl_records.specs.Values.{AreItems, For, Gives}
 use Rattle.asl_records.specs.declared.refusals.ReadFault.{ReadFault}
 use Rattle.asl_records.proofs.Meant.{still_meant}
 use Rattle.asl_records.proofs.Numberings.{none_listed, listed_push}
 use Rattle.asl_records.proofs.Telling.{told_left, told_same}
-
--- ---- elements that are whole
-
-first_whole : (t : Option model.Tree) (ts : Option model.Trees) → is_some (option_and_then (λ t. option_map (model.AndTree t) ts) t) ≡ true → is_some t ≡ true
-first_whole None ts h = absurd (cc)
-first_whole (Some t) ts h = refl
-
-others_whole : (t : Option model.Tree) (ts : Option model.Trees) → is_some (option_and_then (λ t. option_map (model.AndTree t) ts) t) ≡ true → is_some ts ≡ true
-others_whole None ts h = absurd (cc)
-others_whole (Some t) None h = absurd (cc)
-others_whole (Some t) (Some ts) h = refl
-
-pub head_whole : (v : Data) (vs : Items) → ElementsAreWhole (json.item v vs) → IsWhole v
-head_whole v vs h = record { whole = first_whole (tree_of v) (elements_of vs) h.whole }
-
-pub tail_whole : (v : Data) (vs : Items) → ElementsAreWhole (json.item v vs) → ElementsAreWhole vs
-tail_whole v vs h = record { whole = others_whole (tree_of v) (elements_of vs) h.whole }
+use Rattle.asl_records.proofs.Values.{first_item, no_item}
 
 -- nothing is wrong where there is no complaint about it
 pub none_mapped : {A B : Type 0} (f : A → B) (xs : List A) → map f xs ≡ [] → xs ≡ []
@@ -45,84 +28,114 @@ none_mapped f (x ∷ xs) e = absurd (cc)
 
 -- where shapes are read so
 module _ (reading : Reading) where
+  -- of some items those are left, whose elements are these; nothing was wrong with those before, which spell these shapes
+  pub record AreLeft (left : Trees) (done : List Shape) (vs : Items) : Type 0 where
+    pub rest : Items
+    pub are : AreItems left rest
+    pub wrong : shapes_misfits reading vs ≡ shapes_misfits reading rest
+    pub shapes : shapes_from reading.listed vs ≡ done ++ shapes_from reading.listed rest
+
   -- so far numbers were read, nothing was wrong, and the elements that are left make up the rest
-  pub record ReadsNumbers (now : List Shape) (all left : List Value) (ns : List ℕ) : Type 0 where
+  pub record ReadsNumbers (now : List Shape) (all left : List Tree) (ns : List ℕ) : Type 0 where
     pub done : List Shape
     pub numbered : AreListOf now done ns
-    pub wrong : shapes_misfits reading (items_view all) ≡ shapes_misfits reading (items_view left)
-    pub shapes : shapes_from reading.listed (items_view all) ≡ done ++ shapes_from reading.listed (items_view left)
+    pub each : (vs : Items) → AreItems (elements_view all) vs → AreLeft (elements_view left) done vs
 
-  numbers_begun : (table : List Shape) (all left : List Value) (ns : List ℕ) → left ≡ all → ns ≡ [] → ReadsNumbers table all left ns
-  numbers_begun table all left ns same none = rw (same, none) (record { done = []; numbered = none_listed table; wrong = refl; shapes = refl })
+  numbers_begun : (table : List Shape) (all left : List Tree) (ns : List ℕ) → left ≡ all → ns ≡ [] → ReadsNumbers table all left ns
+  numbers_begun table all left ns same none =
+      rw (same, none) (record { done = []; numbered = none_listed table; each = λ vs are. record { rest = vs; are = are; wrong = refl; shapes = refl } })
 
-  numbers_gone_on : (name field : List ℕ) (now new : List Shape) (all left rest : List Value) (ns more : List ℕ) (v : Value) (n : ℕ) → ReadsNumbers now all left ns → left ≡ v ∷ rest → Keeps now new
-      → shape_complaints reading name field (view v) ≡ [] → IsNumberOf new (shape_from reading.listed (view v)) n → more ≡ ns ++ n ∷ [] → ReadsNumbers new all rest more
-  numbers_gone_on name field now new all left rest ns more v n h split keeps right is made =
-      let s = shape_from reading.listed (view v) in
+  -- what is left, by the next element
+  next_left : (all left rest : List Tree) (t : Tree) (done : List Shape) → left ≡ t ∷ rest → ((vs : Items) → AreItems (elements_view all) vs → AreLeft (elements_view left) done vs) → (vs : Items) → AreItems (elements_view all) vs → AreLeft (elements_view (t ∷ rest)) done vs
+  next_left all left rest t done split each vs are = subst (λ ts. AreLeft (elements_view ts) done vs) split (each vs are)
+
+  left_on : (t : Tree) (rest : List Tree) (done : List Shape) (vs : Items) → AreLeft (elements_view (t ∷ rest)) done vs → tree_misfits reading (view t) ≡ [] → AreLeft (elements_view rest) (done ++ tree_shape reading.listed (view t) ∷ []) vs
+  left_on t rest done vs h right =
+      let first = first_item h.rest (view t) (elements_view rest) h.are in
+      let v = first.0 in
+      let further = first.1 in
+      let none : shape_misfits reading v ≡ [] = rw first.3 right in
+      let shape : shape_from reading.listed v ≡ tree_shape reading.listed (view t) = rw first.3 refl in
+      record {
+        rest = further;
+        are = first.4;
+        wrong = h.wrong ∙ ap (shapes_misfits reading) first.2 ∙ ap (λ fs. fs ++ shapes_misfits reading further) none;
+        shapes = h.shapes ∙ ap (λ us. done ++ shapes_from reading.listed us) first.2 ∙ ap (λ s. done ++ s ∷ shapes_from reading.listed further) shape ∙ sym (append_assoc done (tree_shape reading.listed (view t) ∷ []) (shapes_from reading.listed further));
+      }
+
+  numbers_gone_on : (name field : List ℕ) (now new : List Shape) (all left rest : List Tree) (ns more : List ℕ) (t : Tree) (n : ℕ) → ReadsNumbers now all left ns → left ≡ t ∷ rest → Keeps now new
+      → tree_complaints reading name field (view t) ≡ [] → IsNumberOf new (tree_shape reading.listed (view t)) n → more ≡ ns ++ n ∷ [] → ReadsNumbers new all rest more
+  numbers_gone_on name field now new all left rest ns more t n h split keeps right is made =
+      let s = tree_shape reading.listed (view t) in
       record {
         done = h.done ++ s ∷ [];
         numbered = subst (AreListOf new (h.done ++ s ∷ [])) (sym made) (listed_push now new h.done s ns n keeps h.numbered is);
-        wrong = h.wrong ∙ ap (λ vs. shapes_misfits reading (items_view vs)) split ∙ ap (λ fs. fs ++ shapes_misfits reading (items_view rest)) (none_mapped (complaint_of name field) (shape_misfits reading (view v)) right);
-        shapes = h.shapes ∙ ap (λ vs. h.done ++ shapes_from reading.listed (items_view vs)) split ∙ sym (append_assoc h.done (s ∷ []) (shapes_from reading.listed (items_view rest)));
+        each = λ vs are. left_on t rest h.done vs (next_left all left rest t h.done split h.each vs are) (none_mapped (complaint_of name field) (tree_misfits reading (view t)) right);
       }
 
-  numbers_told : (name field : List ℕ) (now : List Shape) (all left rest : List Value) (ns : List ℕ) (v : Value) (fault : ReadFault) → ReadsNumbers now all left ns → left ≡ v ∷ rest
-      → TellsOneOf (shape_complaints reading name field (view v)) fault → TellsOneOf (shapes_complaints reading name field (items_view all)) fault
-  numbers_told name field now all left rest ns v fault h split told =
-      let tell = complaint_of name field in
-      let wrong : shapes_complaints reading name field (items_view all) ≡ shape_complaints reading name field (view v) ++ shapes_complaints reading name field (items_view rest) =
-      ap (map tell) (h.wrong ∙ ap (λ vs. shapes_misfits reading (items_view vs)) split) ∙ map-append tell (shape_misfits reading (view v)) (shapes_misfits reading (items_view rest)) in
-      told_same fault _ _ (told_left fault (shape_complaints reading name field (view v)) (shapes_complaints reading name field (items_view rest)) told) (sym wrong)
+  numbers_told : (name field : List ℕ) (now : List Shape) (all left rest : List Tree) (ns : List ℕ) (t : Tree) (fault : ReadFault) → ReadsNumbers now all left ns → left ≡ t ∷ rest
+      → TellsOneOf (tree_complaints reading name field (view t)) fault → For (AreItems (elements_view all)) (λ vs. TellsOneOf (shapes_complaints reading name field vs) fault)
+  numbers_told name field now all left rest ns t fault h split told = record {
+    each = λ vs are.
+        let left = next_left all left rest t h.done split h.each vs are in
+        let first = first_item left.rest (view t) (elements_view rest) left.are in
+        let v = first.0 in
+        let further = first.1 in
+        let tell = complaint_of name field in
+        let shown : shape_misfits reading v ≡ tree_misfits reading (view t) = rw first.3 refl in
+        let wrong : shapes_complaints reading name field vs ≡ tree_complaints reading name field (view t) ++ shapes_complaints reading name field further =
+        ap (map tell) (left.wrong ∙ ap (shapes_misfits reading) first.2 ∙ ap (λ fs. fs ++ shapes_misfits reading further) shown) ∙ map-append tell (tree_misfits reading (view t)) (shapes_misfits reading further) in
+        told_same fault _ _ (told_left fault (tree_complaints reading name field (view t)) (shapes_complaints reading name field further) told) (sym wrong);
+  }
 
-  numbers_right : (name field : List ℕ) (now : List Shape) (all left : List Value) (ns : List ℕ) → ReadsNumbers now all left ns → left ≡ [] → shapes_complaints reading name field (items_view all) ≡ []
-  numbers_right name field now all left ns h end = ap (map (complaint_of name field)) (h.wrong ∙ ap (λ vs. shapes_misfits reading (items_view vs)) end)
+  -- at the end
+  none_left : (all left : List Tree) (done : List Shape) → left ≡ [] → ((vs : Items) → AreItems (elements_view all) vs → AreLeft (elements_view left) done vs) → (vs : Items) → AreItems (elements_view all) vs → (shapes_misfits reading vs ≡ []) × (shapes_from reading.listed vs ≡ done)
+  none_left all left done end each vs are =
+      let left = subst (λ ts. AreLeft (elements_view ts) done vs) end (each vs are) in
+      let none = no_item left.rest left.are in
+      (left.wrong ∙ ap (shapes_misfits reading) none, left.shapes ∙ ap (λ us. done ++ shapes_from reading.listed us) none ∙ append-nil done)
 
-  numbers_read : (now : List Shape) (all left : List Value) (ns : List ℕ) → ReadsNumbers now all left ns → left ≡ [] → AreListOf now (shapes_from reading.listed (items_view all)) ns
-  numbers_read now all left ns h end =
-      subst (λ ss. AreListOf now ss ns) (sym (h.shapes ∙ ap (λ vs. h.done ++ shapes_from reading.listed (items_view vs)) end ∙ append-nil h.done)) h.numbered
+  numbers_right : (name field : List ℕ) (now : List Shape) (all left : List Tree) (ns : List ℕ) → ReadsNumbers now all left ns → left ≡ [] → For (AreItems (elements_view all)) (λ vs. shapes_complaints reading name field vs ≡ [])
+  numbers_right name field now all left ns h end = record { each = λ vs are. ap (map (complaint_of name field)) (none_left all left h.done end h.each vs are).0 }
+
+  numbers_read : (now : List Shape) (all left : List Tree) (ns : List ℕ) → ReadsNumbers now all left ns → left ≡ [] → Gives (AreItems (elements_view all)) (shapes_from reading.listed) (λ shapes. AreListOf now shapes ns)
+  numbers_read now all left ns h end = record { one = h.done; same = λ vs are. (none_left all left h.done end h.each vs are).1; holds = h.numbered }
 
 -- ---- however shapes are read, and whatever trees the given numbers mean
 
 module _ (several : Bool) (given : Option (Bor (List ℕ))) (start : List Shape) where
-  pub record ReadsFor (now : List Shape) (all left : List Value) (ns : List ℕ) : Type 0 where
+  pub record ReadsFor (now : List Shape) (all left : List Tree) (ns : List ℕ) : Type 0 where
     pub keeps : Keeps start now
-    pub whole : ElementsAreWhole (items_view left)
     pub reads : ForReading several start given (λ reading. ReadsNumbers reading now all left ns)
 
-  pub begun : (all left : List Value) (ns : List ℕ) → ElementsAreWhole (items_view all) → left ≡ all → ns ≡ [] → ReadsFor start all left ns
-  begun all left ns whole same none = record {
+  pub begun : (all left : List Tree) (ns : List ℕ) → left ≡ all → ns ≡ [] → ReadsFor start all left ns
+  begun all left ns same none = record {
     keeps = keeps_same start;
-    whole = subst (λ vs. ElementsAreWhole (items_view vs)) (sym same) whole;
     reads = record { each = λ reading means. numbers_begun reading start all left ns same none };
   }
 
-  -- the next element is whole
-  pub next_whole : (now : List Shape) (all left rest : List Value) (ns : List ℕ) (v : Value) → ReadsFor now all left ns → left ≡ v ∷ rest → IsWhole (view v)
-  next_whole now all left rest ns v h split = head_whole (view v) (items_view rest) (subst (λ vs. ElementsAreWhole (items_view vs)) split h.whole)
-
   -- one more element was read
-  pub gone_on : (name field : List ℕ) (now new : List Shape) (all left rest : List Value) (ns more : List ℕ) (v : Value) (n : ℕ) → AreInTable start given → ReadsFor now all left ns → left ≡ v ∷ rest → Keeps now new
-      → ForReading several now given (λ reading. shape_complaints reading name field (view v) ≡ []) → ForReading several now given (λ reading. IsNumberOf new (shape_from reading.listed (view v)) n) → more ≡ ns ++ n ∷ [] → ReadsFor new all rest more
-  gone_on name field now new all left rest ns more v n there h split keeps right is made = record {
+  pub gone_on : (name field : List ℕ) (now new : List Shape) (all left rest : List Tree) (ns more : List ℕ) (t : Tree) (n : ℕ) → AreInTable start given → ReadsFor now all left ns → left ≡ t ∷ rest → Keeps now new
+      → ForReading several now given (λ reading. tree_complaints reading name field (view t) ≡ []) → ForReading several now given (λ reading. IsNumberOf new (tree_shape reading.listed (view t)) n) → more ≡ ns ++ n ∷ [] → ReadsFor new all rest more
+  gone_on name field now new all left rest ns more t n there h split keeps right is made = record {
     keeps = keeps_trans start now new h.keeps keeps;
-    whole = tail_whole (view v) (items_view rest) (subst (λ vs. ElementsAreWhole (items_view vs)) split h.whole);
     reads = record {
       each = λ reading means.
           let still = still_meant start now h.keeps given reading there means in
-          numbers_gone_on reading name field now new all left rest ns more v n (h.reads.each reading means) split keeps (right.each reading still) (is.each reading still) made;
+          numbers_gone_on reading name field now new all left rest ns more t n (h.reads.each reading means) split keeps (right.each reading still) (is.each reading still) made;
     };
   }
 
   -- what is told of the next element is told of all
-  pub next_told : (name field : List ℕ) (now : List Shape) (all left rest : List Value) (ns : List ℕ) (v : Value) (fault : ReadFault) → AreInTable start given → ReadsFor now all left ns → left ≡ v ∷ rest
-      → ForReading several now given (λ reading. TellsOneOf (shape_complaints reading name field (view v)) fault) → ForReading several start given (λ reading. TellsOneOf (shapes_complaints reading name field (items_view all)) fault)
-  next_told name field now all left rest ns v fault there h split told = record {
-    each = λ reading means. numbers_told reading name field now all left rest ns v fault (h.reads.each reading means) split (told.each reading (still_meant start now h.keeps given reading there means));
+  pub next_told : (name field : List ℕ) (now : List Shape) (all left rest : List Tree) (ns : List ℕ) (t : Tree) (fault : ReadFault) → AreInTable start given → ReadsFor now all left ns → left ≡ t ∷ rest
+      → ForReading several now given (λ reading. TellsOneOf (tree_complaints reading name field (view t)) fault) → ForReading several start given (λ reading. For (AreItems (elements_view all)) (λ vs. TellsOneOf (shapes_complaints reading name field vs) fault))
+  next_told name field now all left rest ns t fault there h split told = record {
+    each = λ reading means. numbers_told reading name field now all left rest ns t fault (h.reads.each reading means) split (told.each reading (still_meant start now h.keeps given reading there means));
   }
 
   -- at the end
-  pub none_wrong : (name field : List ℕ) (now : List Shape) (all left : List Value) (ns : List ℕ) → ReadsFor now all left ns → left ≡ [] → ForReading several start given (λ reading. shapes_complaints reading name field (items_view all) ≡ [])
+  pub none_wrong : (name field : List ℕ) (now : List Shape) (all left : List Tree) (ns : List ℕ) → ReadsFor now all left ns → left ≡ [] → ForReading several start given (λ reading. For (AreItems (elements_view all)) (λ vs. shapes_complaints reading name field vs ≡ []))
   none_wrong name field now all left ns h end = record { each = λ reading means. numbers_right reading name field now all left ns (h.reads.each reading means) end }
 
-  pub all_read : (now : List Shape) (all left : List Value) (ns : List ℕ) → ReadsFor now all left ns → left ≡ [] → ForReading several start given (λ reading. AreListOf now (shapes_from reading.listed (items_view all)) ns)
+  pub all_read : (now : List Shape) (all left : List Tree) (ns : List ℕ) → ReadsFor now all left ns → left ≡ [] → ForReading several start given (λ reading. Gives (AreItems (elements_view all)) (shapes_from reading.listed) (λ shapes. AreListOf now shapes ns))
   all_read now all left ns h end = record { each = λ reading means. numbers_read reading now all left ns (h.reads.each reading means) end }

@@ -1,14 +1,13 @@
--- What is read of a value that spells a shape, and what is told of one that doesn't.
-use Rattle.std.proofs.Common.{◌≡◌, ℕ, Bool, zero, suc, ◌<◌, List, [], ◌∷◌, map, length, slice_index_or, Option, Some, None, option_map, IfSome, Bor, ◌⊎◌, inl, inr, refl, sym, ap, ◌∙◌, subst, arith}
+-- What is read of a tree that spells a shape, and what is told of one that doesn't.
+use Rattle.std.proofs.Common.{◌≡◌, ℕ, Bool, zero, suc, ◌<◌, List, [], ◌∷◌, map, length, slice_index_or, Option, Some, None, option_map, IfSome, Result, Err, true, Bor, ◌⊎◌, inl, inr, refl, sym, ap, subst, arith}
 use Rattle.std.proofs.lemmas.List.Elements.{Contains-append_right}
 use Rattle.std.specs.List.{Contains}
-use Rattle.serde_json.specs.Data.{Data}
-use Rattle.asl_model.specs.Json.{tree_of}
 use Rattle.asl_model.specs.Tree.{Tree}
 use Rattle.asl_model.specs.ShapeSpelling as model
 use Rattle.asl_model.specs.Shape.{Shape}
-use Rattle.asl_model.specs.ShapeSpelling.{shape_of, shape_faults}
-use Rattle.asl_model.specs.Records.{Reading, RecordFault, RecordComplaint, BadShape, BadNumber, number_misfits, plain, shape_from, tree_misfits}
+use Rattle.asl_model.specs.ShapeSpelling.{HasShapeFault, shape_of, shape_faults}
+use Rattle.asl_model.specs.Records.{Reading, RecordFault, RecordComplaint, BadShape, BadNumber, number_misfits, plain, tree_misfits}
+use Rattle.asl_shape.specs.declared.shape.Shape.{Shape as CodeShape}
 use Rattle.asl_shape.specs.declared.ShapeRefusal.{ShapeRefusal}
 use Rattle.asl_shape.specs.declared.ShapeRefusal.TheVariants as shape
 use Rattle.asl_shape.specs.Refusal.{Tells, fault_named}
@@ -20,7 +19,7 @@ use Rattle.asl_numbered.specs.declared.NumberedRefusal.{NumberedRefusal}
 use Rattle.asl_numbered.specs.declared.NumberedRefusal.TheVariants as numbered
 use Rattle.asl_records.specs.Listed.{AreMeant, IsReading, Mean}
 use Rattle.asl_records.specs.View.{record_fault_view}
-use Rattle.asl_records.specs.Parts.{TellsOneOf, complaint_of, fault_told, reading_of, shape_complaints, unlisted}
+use Rattle.asl_records.specs.Parts.{TellsOneOf, complaint_of, fault_told, reading_of, tree_complaints, tree_shape, unlisted}
 use Rattle.asl_records.specs.declared.refusals.ReadFault.{ReadFault}
 use Rattle.asl_records.specs.declared.refusals.RecordFault.TheVariants as kept
 use Rattle.asl_records.proofs.Telling.{told_within}
@@ -52,26 +51,30 @@ mapped_at g (y ∷ xs) x (suc k) h e = let r = mapped_at g xs x k (omega arith) 
 pub mapped : {A B : Type 0} (g : A → B) (xs : List A) (x : A) → Contains xs x → Contains (map g xs) (g x)
 mapped g xs x h = mapped_at g xs x h.0 h.1 h.2
 
--- the complaints about a value that is a tree are those of its misfits as a spelling
-complaints_shown : (reading : Reading) (name field : List ℕ) (v : Data) (t : Tree) → tree_of v ≡ Some t → shape_complaints reading name field v ≡ map (complaint_of name field) (tree_misfits reading t)
-complaints_shown reading name field v t e = rw e refl
+misfit_listed : (reading : Reading) (name field : List ℕ) (t : Tree) (f : RecordFault) → Contains (tree_misfits reading t) f → Contains (tree_complaints reading name field t) (complaint_of name field f)
+misfit_listed reading name field t f h = mapped (complaint_of name field) (tree_misfits reading t) f h
 
-misfit_listed : (reading : Reading) (name field : List ℕ) (v : Data) (t : Tree) (f : RecordFault) → tree_of v ≡ Some t → Contains (tree_misfits reading t) f → Contains (shape_complaints reading name field v) (complaint_of name field f)
-misfit_listed reading name field v t f is h =
-    subst (λ cs. Contains cs (complaint_of name field f)) (sym (complaints_shown reading name field v t is)) (mapped (complaint_of name field) (tree_misfits reading t) f h)
-
-shape_listed : (reading : Reading) (name field : List ℕ) (v : Data) (t : Tree) (f : model.ShapeFault) → tree_of v ≡ Some t → Contains (shape_faults reading.several (plain reading.listed t)) f → Contains (shape_complaints reading name field v) (complaint_of name field (BadShape f))
-shape_listed reading name field v t f is h =
+shape_listed : (reading : Reading) (name field : List ℕ) (t : Tree) (f : model.ShapeFault) → Contains (shape_faults reading.several (plain reading.listed t)) f → Contains (tree_complaints reading name field t) (complaint_of name field (BadShape f))
+shape_listed reading name field t f h =
     let faults = shape_faults reading.several (plain reading.listed t) in
-    misfit_listed reading name field v t (BadShape f) is (Contains-append_right (number_misfits reading.listed t) (map BadShape faults) (BadShape f) (mapped BadShape faults f h))
+    misfit_listed reading name field t (BadShape f) (Contains-append_right (number_misfits reading.listed t) (map BadShape faults) (BadShape f) (mapped BadShape faults f h))
 
--- a refusal of the tree names a complaint about the value
-pub refusal_listed : (several : Bool) (refusal : ShapeRefusal) (name field : List ℕ) (v : Data) (t : Tree) → tree_of v ≡ Some t → Tells refusal (shape_faults several t) → IfSome (fault_named refusal) (λ f. Contains (shape_complaints (unlisted several) name field v) (complaint_of name field (BadShape f)))
-refusal_listed several refusal name field v t is h = by (fault_named refusal) h.listed
+-- a refusal of the tree names a complaint about it
+pub refusal_listed : (several : Bool) (refusal : ShapeRefusal) (name field : List ℕ) (t : Tree) → Tells refusal (shape_faults several t) → IfSome (fault_named refusal) (λ f. Contains (tree_complaints (unlisted several) name field t) (complaint_of name field (BadShape f)))
+refusal_listed several refusal name field t h = by (fault_named refusal) h.listed
   where
-    by : (o : Option model.ShapeFault) → IfSome o (Contains (shape_faults several t)) → IfSome o (λ f. Contains (shape_complaints (unlisted several) name field v) (complaint_of name field (BadShape f)))
+    by : (o : Option model.ShapeFault) → IfSome o (Contains (shape_faults several t)) → IfSome o (λ f. Contains (tree_complaints (unlisted several) name field t) (complaint_of name field (BadShape f)))
     by None k = k
-    by (Some f) k = shape_listed (unlisted several) name field v t f is k
+    by (Some f) k = shape_listed (unlisted several) name field t f k
+
+-- a refusal tells the fault that it names
+pub refusal_told : (t : Tree) (r : Result CodeShape ShapeRefusal) (e : ShapeRefusal) → r ≡ Err e → (r ≡ Err shape.NotAShape → HasShapeFault t model.NotAShape) → (r ≡ Err shape.Keyword → HasShapeFault t model.Keyword) → (r ≡ Err shape.BadType → HasShapeFault t model.BadType)
+    → (r ≡ Err shape.MinItems → HasShapeFault t model.MinItems) → Tells e (shape_faults true t)
+refusal_told t r shape.NotAShape is not_a_shape keyword bad_type min_items = record { listed = (not_a_shape is).listed }
+refusal_told t r shape.Keyword is not_a_shape keyword bad_type min_items = record { listed = (keyword is).listed }
+refusal_told t r shape.BadType is not_a_shape keyword bad_type min_items = record { listed = (bad_type is).listed }
+refusal_told t r shape.MinItems is not_a_shape keyword bad_type min_items = record { listed = (min_items is).listed }
+refusal_told t r shape.OutOfMemory is not_a_shape keyword bad_type min_items = record { listed = tt }
 
 -- ---- where references mean listed trees
 
@@ -102,49 +105,48 @@ read_as : (several : Bool) (table : List Shape) (numbers : Option (Bor (List ℕ
 read_as several table numbers reading t s is h =
     subst (λ r. IsReadAs r t s) (as_said several table numbers reading is) (read_so several table numbers reading.listed t s is.meant h)
 
-pub none_wrong_in : (several : Bool) (table new : List Shape) (numbers : Option (Bor (List ℕ))) (reading : Reading) (name field : List ℕ) (v : Data) (t : Tree) (n : ℕ) → tree_of v ≡ Some t → IsReading several table (numbers_given numbers) reading
-    → SpellsWith several (shapes_given table numbers) t (shape_at new n) → shape_complaints reading name field v ≡ []
-none_wrong_in several table new numbers reading name field v t n is means h =
+pub none_wrong_in : (several : Bool) (table new : List Shape) (numbers : Option (Bor (List ℕ))) (reading : Reading) (name field : List ℕ) (t : Tree) (n : ℕ) → IsReading several table (numbers_given numbers) reading
+    → SpellsWith several (shapes_given table numbers) t (shape_at new n) → tree_complaints reading name field t ≡ []
+none_wrong_in several table new numbers reading name field t n means h =
     let read = read_as several table numbers reading t (shape_at new n) means h in
-    complaints_shown reading name field v t is ∙ ap (map (complaint_of name field)) read.none_wrong
+    ap (map (complaint_of name field)) read.none_wrong
 
-pub number_in : (several : Bool) (table new : List Shape) (numbers : Option (Bor (List ℕ))) (reading : Reading) (v : Data) (t : Tree) (n : ℕ) → tree_of v ≡ Some t → IsReading several table (numbers_given numbers) reading
-    → SpellsWith several (shapes_given table numbers) t (shape_at new n) → IsNumberOf new (shape_at new n) n → IsNumberOf new (shape_from reading.listed v) n
-number_in several table new numbers reading v t n is means h number =
+pub number_in : (several : Bool) (table new : List Shape) (numbers : Option (Bor (List ℕ))) (reading : Reading) (t : Tree) (n : ℕ) → IsReading several table (numbers_given numbers) reading
+    → SpellsWith several (shapes_given table numbers) t (shape_at new n) → IsNumberOf new (shape_at new n) n → IsNumberOf new (tree_shape reading.listed t) n
+number_in several table new numbers reading t n means h number =
     let read = read_as several table numbers reading t (shape_at new n) means h in
-    let from : shape_from reading.listed v ≡ shape_of (plain reading.listed t) = rw is refl in
-    subst (λ s. IsNumberOf new s n) (sym (from ∙ read.same)) number
+    subst (λ s. IsNumberOf new s n) (sym read.same) number
 
-tells : (several : Bool) (table : List Shape) (numbers : Option (Bor (List ℕ))) (listed : Option (List Tree)) (refusal : NumberedRefusal) (name field : List ℕ) (v : Data) (t : Tree) → tree_of v ≡ Some t → Mean several table (numbers_given numbers) listed → TellsOf several (shapes_given table numbers) t refusal
-    → IfSome (fault_told refusal) (λ f. Contains (shape_complaints (reading_of several listed) name field v) (complaint_of name field f))
-tells several table None None (numbered.Shape refusal) name field v t is meant told =
-    by (fault_named refusal) (refusal_listed several refusal name field v t is (tells_plain several t (numbered.Shape refusal) told))
+tells : (several : Bool) (table : List Shape) (numbers : Option (Bor (List ℕ))) (listed : Option (List Tree)) (refusal : NumberedRefusal) (name field : List ℕ) (t : Tree) → Mean several table (numbers_given numbers) listed → TellsOf several (shapes_given table numbers) t refusal
+    → IfSome (fault_told refusal) (λ f. Contains (tree_complaints (reading_of several listed) name field t) (complaint_of name field f))
+tells several table None None (numbered.Shape refusal) name field t meant told =
+    by (fault_named refusal) (refusal_listed several refusal name field t (tells_plain several t (numbered.Shape refusal) told))
   where
-    by : (o : Option model.ShapeFault) → IfSome o (λ f. Contains (shape_complaints (unlisted several) name field v) (complaint_of name field (BadShape f))) → IfSome (option_map BadShape o) (λ f. Contains (shape_complaints (unlisted several) name field v) (complaint_of name field f))
+    by : (o : Option model.ShapeFault) → IfSome o (λ f. Contains (tree_complaints (unlisted several) name field t) (complaint_of name field (BadShape f))) → IfSome (option_map BadShape o) (λ f. Contains (tree_complaints (unlisted several) name field t) (complaint_of name field f))
     by None k = k
     by (Some f) k = k
-tells several table None None numbered.BadNumber name field v t is meant told = absurd (tells_plain several t numbered.BadNumber told)
-tells several table None None numbered.OutOfMemory name field v t is meant told = tt
-tells several table None (Some trees) refusal name field v t is meant told = absurd meant
-tells several table (Some ns) None refusal name field v t is meant told = absurd meant
-tells several table (Some ns) (Some trees) (numbered.Shape refusal) name field v t is meant told =
+tells several table None None numbered.BadNumber name field t meant told = absurd (tells_plain several t numbered.BadNumber told)
+tells several table None None numbered.OutOfMemory name field t meant told = tt
+tells several table None (Some trees) refusal name field t meant told = absurd meant
+tells several table (Some ns) None refusal name field t meant told = absurd meant
+tells several table (Some ns) (Some trees) (numbered.Shape refusal) name field t meant told =
     let said = told.said in
     let given = map (shape_at table) ns.now in
     let reading = reading_of several (Some trees) in
     let there = has_fault_out several trees given (spelled_in several table ns.now trees meant) t said.0 said.2 in
-    subst (λ o. IfSome (option_map BadShape o) (λ f. Contains (shape_complaints reading name field v) (complaint_of name field f))) (sym said.1) (shape_listed reading name field v t said.0 is there)
-tells several table (Some ns) (Some trees) numbered.BadNumber name field v t is meant told =
+    subst (λ o. IfSome (option_map BadShape o) (λ f. Contains (tree_complaints reading name field t) (complaint_of name field f))) (sym said.1) (shape_listed reading name field t said.0 there)
+tells several table (Some ns) (Some trees) numbered.BadNumber name field t meant told =
     let given = map (shape_at table) ns.now in
     let wrong = wrong_number_out several trees given (spelled_in several table ns.now trees meant) t told.said in
-    misfit_listed (reading_of several (Some trees)) name field v t BadNumber is (rw wrong (0, omega arith, refl))
-tells several table (Some ns) (Some trees) numbered.OutOfMemory name field v t is meant told = tt
+    misfit_listed (reading_of several (Some trees)) name field t BadNumber (rw wrong (0, omega arith, refl))
+tells several table (Some ns) (Some trees) numbered.OutOfMemory name field t meant told = tt
 
--- a refusal of the tree for a table names a complaint about the value
-pub number_refusal_listed : (several : Bool) (table : List Shape) (numbers : Option (Bor (List ℕ))) (reading : Reading) (refusal : NumberedRefusal) (name field : List ℕ) (v : Data) (t : Tree) → tree_of v ≡ Some t → IsReading several table (numbers_given numbers) reading
-    → TellsOf several (shapes_given table numbers) t refusal → IfSome (fault_told refusal) (λ f. Contains (shape_complaints reading name field v) (complaint_of name field f))
-number_refusal_listed several table numbers reading refusal name field v t is means told =
-    subst (λ r. IfSome (fault_told refusal) (λ f. Contains (shape_complaints r name field v) (complaint_of name field f))) (as_said several table numbers reading means)
-    (tells several table numbers reading.listed refusal name field v t is means.meant told)
+-- a refusal of the tree for a table names a complaint about it
+pub number_refusal_listed : (several : Bool) (table : List Shape) (numbers : Option (Bor (List ℕ))) (reading : Reading) (refusal : NumberedRefusal) (name field : List ℕ) (t : Tree) → IsReading several table (numbers_given numbers) reading
+    → TellsOf several (shapes_given table numbers) t refusal → IfSome (fault_told refusal) (λ f. Contains (tree_complaints reading name field t) (complaint_of name field f))
+number_refusal_listed several table numbers reading refusal name field t means told =
+    subst (λ r. IfSome (fault_told refusal) (λ f. Contains (tree_complaints r name field t) (complaint_of name field f))) (as_said several table numbers reading means)
+    (tells several table numbers reading.listed refusal name field t means.meant told)
 
 -- ---- what is told of a refusal
 

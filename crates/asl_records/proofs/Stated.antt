@@ -1,5 +1,5 @@
 -- What is wrong with a state's entry, by the parts in which it is read.
-use Rattle.std.proofs.Common.{◌≡◌, ℕ, List, [], ◌++◌, codes, Option, Some, option_map, true, false, refl, ◌∙◌}
+use Rattle.std.proofs.Common.{◌≡◌, ℕ, List, [], ◌++◌, codes, Some, option_map, true, false, refl, ◌∙◌}
 use Rattle.serde_json.specs.Data.{Data, Members}
 use Rattle.serde_json.specs.Find.{as_object, get_member}
 use Rattle.asl_model.specs.Records.{Reading, RecordComplaint, object_complaints, state_rows, shape_from, state_from}
@@ -24,12 +24,17 @@ module _ (reading : Reading) where
   abbrev pub of_item : List ℕ → Members → List RecordComplaint
   of_item name ms = field_complaints reading name (shape_row (codes "item") false) (get_member (codes "item") ms)
 
-  -- what stands in them, by the look-ups of the fields one after another
-  abbrev pub read_from : Option Data → Option Data → Option Data → Option Data → StateShapes
-  read_from input output branches item = record { input = shape_there reading.listed input; output = shape_there reading.listed output; branches = shapes_there reading.listed branches; item = option_map (shape_from reading.listed) item }
+  -- what stands in them
+  abbrev pub read_from : Members → StateShapes
+  read_from ms = record {
+    input = shape_there reading.listed (get_member (codes "input") ms);
+    output = shape_there reading.listed (get_member (codes "output") ms);
+    branches = shapes_there reading.listed (get_member (codes "branches") ms);
+    item = option_map (shape_from reading.listed) (get_member (codes "item") ms);
+  }
 
-  pub stands_for : (v : Data) (ms : Members) (output branches item : Option Data) → as_object v ≡ Some ms → output ≡ get_member (codes "output") ms → branches ≡ get_member (codes "branches") ms → item ≡ get_member (codes "item") ms → read_from (get_member (codes "input") ms) output branches item ≡ state_from reading.listed v
-  stands_for v ms output branches item is o b i = rw (o, b, i, is) refl
+  pub stands_for : (v : Data) (ms : Members) → as_object v ≡ Some ms → read_from ms ≡ state_from reading.listed v
+  stands_for v ms is = rw is refl
 
   -- where no part has a complaint, there is none
   pub none_wrong : (name : List ℕ) (v : Data) (ms : Members) → as_object v ≡ Some ms → foreign_complaints name (names_of state_rows) ms ≡ [] → of_input name ms ≡ [] → of_output name ms ≡ [] → of_branches name ms ≡ [] → of_item name ms ≡ [] → object_complaints reading name state_rows v ≡ []

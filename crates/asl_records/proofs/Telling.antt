@@ -13,7 +13,6 @@ use Rattle.asl_records.specs.declared.refusals.RecordFault.{RecordFault as Fault
 
 -- where every complaint of one list is one of another
 blamed : (f : ReadFault) (xs ys : List RecordComplaint) → ((c : RecordComplaint) → Contains xs c → Contains ys c) → Blames xs f → Blames ys f
-blamed kept.NotWhole xs ys all h = h
 blamed (kept.Record refusal) xs ys all h = (h.0, h.1, all h.0 h.2)
 blamed kept.OutOfMemory xs ys all h = h
 

@@ -5,6 +5,7 @@ pub mod Numbering
 pub mod Parts
 pub mod Proper
 pub mod Refusal
+pub mod Values
 pub mod View
 pub mod Writing
 pub mod WritingNumbered

@@ -1,20 +1,16 @@
 -- What is wrong with the parts of a record, and what a part is refused with. No public clause cites this module.
-use Rattle.std.specs.Prelude.{◌≡◌, ℕ, ℤ, List, [], ◌∷◌, ◌++◌, map, Bool, true, false, if◌then◌else◌, Option, Some, None, option_map, option_and_then, codes, bytes_eq, ⊤, IsTrue, is_some, String}
-use Rattle.std.specs.declared.alloc.Global.{Global}
+use Rattle.std.specs.Prelude.{ℕ, ℤ, List, [], ◌∷◌, ◌++◌, map, Bool, true, false, if◌then◌else◌, Option, Some, None, option_map, option_and_then, codes, ⊤}
 use Rattle.std.specs.Option.{unwrap_or}
 use Rattle.std.specs.List.{Contains}
 use Rattle.std.specs.Ordering.{int_eq}
 use Rattle.serde_json.specs.Data as json
 use Rattle.serde_json.specs.Data.{Data, Items, Members}
 use Rattle.serde_json.specs.Find.{as_array, as_i64, as_number, get_member}
-use Rattle.serde_json.specs.View.{members_view}
-use Rattle.serde_json.specs.declared.value.Value.{Value}
 use Rattle.asl_model.specs.Shape.{Shape, Any}
-use Rattle.asl_model.specs.ShapeSpelling.{is_among}
-use Rattle.asl_model.specs.Json.{tree_of, elements_of, members_of}
+use Rattle.asl_model.specs.ShapeSpelling.{is_among, shape_of}
 use Rattle.asl_model.specs.Tree.{Tree}
 use Rattle.asl_model.specs.Certificate as model
-use Rattle.asl_model.specs.Records.{Reading, RecordFault, UnknownField, BadShape, BadNumber, RecordComplaint, RecordRow, ShapeValue, ShapesValue, ListedValue, EntriesValue, VersionValue, record_row_faults, members_in, shape_from, shapes_from, shape_misfits, shapes_misfits, listed_after, listed_misfits, state_rows, state_from, entries_complaints, entries_from}
+use Rattle.asl_model.specs.Records.{Reading, RecordFault, UnknownField, BadShape, BadNumber, RecordComplaint, RecordRow, ShapeValue, ShapesValue, ListedValue, EntriesValue, VersionValue, record_row_faults, members_in, plain, shape_from, shapes_from, shapes_misfits, tree_misfits, listed_after, listed_misfits, state_rows, state_from, entries_complaints, entries_from}
 use Rattle.asl_shape.specs.Refusal.{fault_named}
 use Rattle.asl_numbered.specs.declared.NumberedRefusal.{NumberedRefusal}
 use Rattle.asl_numbered.specs.declared.NumberedRefusal.TheVariants as numbered
@@ -26,7 +22,6 @@ use Rattle.asl_records.specs.declared.refusals.ReadFault.TheVariants as kept
 
 -- a part is refused with one of the complaints about it, or because memory ran out
 abbrev pub Blames : List RecordComplaint → ReadFault → Type 0
-Blames wrong kept.NotWhole = ⊥
 Blames wrong (kept.Record refusal) = Tells refusal (Contains wrong)
 Blames wrong kept.OutOfMemory = ⊤
 
@@ -39,25 +34,15 @@ fault_told (numbered.Shape refusal) = option_map BadShape (fault_named refusal)
 fault_told numbered.BadNumber = Some BadNumber
 fault_told numbered.OutOfMemory = None
 
--- all numbers in the value are whole, in the members, and in the elements: it is a tree
-pub record IsWhole (v : Data) : Type 0 where
-  pub whole : IsTrue (is_some (tree_of v))
-
-pub record AreWhole (ms : Members) : Type 0 where
-  pub whole : IsTrue (is_some (members_of ms))
-
-pub record ElementsAreWhole (vs : Items) : Type 0 where
-  pub whole : IsTrue (is_some (elements_of vs))
-
 -- ---- complaints
 
 -- a fault of that field, in the entry of that name
 abbrev pub complaint_of : List ℕ → List ℕ → RecordFault → RecordComplaint
 complaint_of name field fault = record { fault = fault; name = name; field = field }
 
--- what is wrong with a value that should be a shape, read so
-abbrev pub shape_complaints : Reading → List ℕ → List ℕ → Data → List RecordComplaint
-shape_complaints reading name field v = map (complaint_of name field) (shape_misfits reading v)
+-- what is wrong with a tree that should be a shape, read so
+abbrev pub tree_complaints : Reading → List ℕ → List ℕ → Tree → List RecordComplaint
+tree_complaints reading name field t = map (complaint_of name field) (tree_misfits reading t)
 
 -- what is wrong with values that should be shapes
 abbrev pub shapes_complaints : Reading → List ℕ → List ℕ → Items → List RecordComplaint
@@ -111,18 +96,13 @@ foreign_complaints name known (json.member n v ms) = if is_among n known then fo
 
 -- ---- what stands there
 
--- the value in a field, if there is one
-abbrev pub value_in : List ℕ → List (String Global × Value) → Option Data
-value_in field members = get_member field (members_view members)
-
--- the field was taken out of members that are whole, and the others are as they were
-pub record Takes (field : List ℕ) (old new : List (String Global × Value)) : Type 0 where
-  pub left : AreWhole (members_view new)
-  pub others : (n : List ℕ) → bytes_eq field n ≡ false → value_in n new ≡ value_in n old
-
 -- the members of the object that stands there
 abbrev pub members_there : Option Data → Members
 members_there value = unwrap_or (option_map members_in value) json.no_members
+
+-- the shape that a tree spells, where references mean those trees
+abbrev pub tree_shape : Option (List Tree) → Tree → Shape
+tree_shape listed t = shape_of (plain listed t)
 
 -- the shape that stands there, Any where nothing does
 abbrev pub shape_there : Option (List Tree) → Option Data → Shape
@@ -145,18 +125,18 @@ states_complaints reading states =
     ++ entries_complaints reading state_rows (members_there states)
 
 -- what is wrong with its output and with its states
-abbrev pub certified_complaints : Reading → List (String Global × Value) → List RecordComplaint
-certified_complaints reading fields =
-    field_complaints reading [] (shape_row (codes "output") true) (value_in (codes "output") fields)
-    ++ states_complaints reading (value_in (codes "states") fields)
+abbrev pub certified_complaints : Reading → Members → List RecordComplaint
+certified_complaints reading ms =
+    field_complaints reading [] (shape_row (codes "output") true) (get_member (codes "output") ms)
+    ++ states_complaints reading (get_member (codes "states") ms)
 
 -- the states that stand there
 abbrev pub states_there : Option (List Tree) → Option Data → List (List ℕ × model.StateShapes)
 states_there listed states = entries_from (state_from listed) (members_there states)
 
 -- the certificate that its output and its states make
-abbrev pub certified : Option (List Tree) → List (String Global × Value) → model.Certificate
-certified listed fields = record {
-  output = shape_there listed (value_in (codes "output") fields);
-  states = states_there listed (value_in (codes "states") fields);
+abbrev pub certified : Option (List Tree) → Members → model.Certificate
+certified listed ms = record {
+  output = shape_there listed (get_member (codes "output") ms);
+  states = states_there listed (get_member (codes "states") ms);
 }

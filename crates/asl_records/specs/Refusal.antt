@@ -1,7 +1,6 @@
--- Why a JSON value is refused.
-use Rattle.std.specs.Prelude.{◌≡◌, Some, None, ⊤}
+-- Why a tree is refused.
+use Rattle.std.specs.Prelude.{◌≡◌, Some, ⊤}
 use Rattle.serde_json.specs.Data.{Data}
-use Rattle.asl_model.specs.Json.{tree_of}
 use Rattle.asl_model.specs.Records.{RecordComplaint, HasDeclaredFault, HasCertificateFault}
 use Rattle.asl_records.specs.View.{complaint_view}
 use Rattle.asl_records.specs.declared.refusals.RecordRefusal.{RecordRefusal}
@@ -14,12 +13,10 @@ Tells refusal Stands = (c : RecordComplaint) × (complaint_view refusal ≡ Some
 
 -- why the value isn't read as declared shapes
 abbrev pub IsDeclaredRefusal : Data → ReadFault → Type 0
-IsDeclaredRefusal v kept.NotWhole = tree_of v ≡ None
 IsDeclaredRefusal v (kept.Record refusal) = Tells refusal (HasDeclaredFault v)
 IsDeclaredRefusal v kept.OutOfMemory = ⊤
 
 -- why it isn't read as a certificate
 abbrev pub IsCertificateRefusal : Data → ReadFault → Type 0
-IsCertificateRefusal v kept.NotWhole = tree_of v ≡ None
 IsCertificateRefusal v (kept.Record refusal) = Tells refusal (HasCertificateFault v)
 IsCertificateRefusal v kept.OutOfMemory = ⊤

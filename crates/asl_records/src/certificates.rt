@@ -1,8 +1,10 @@
 // Reading certificates.
 
-ghost use Rattle.std.specs.Prelude.{◌≡◌, [], pos, IfOk, IfErr, IfSome, OnOk, option_map, codes};
-ghost use Rattle.serde_json.specs.View.{view, members_view};
-ghost use Rattle.asl_model.specs.Records.{Reading, StandsForCertificate, certificate_complaints, certificate_from, object_complaints, entries_complaints, entries_from, state_rows, state_from};
+ghost use Rattle.std.specs.Prelude.{◌≡◌, [], map, pos, Some, IfOk, IfErr, OnOk, codes};
+ghost use Rattle.std.specs.Ordering.{int_eq};
+ghost use Rattle.asl_model.specs.Records.{Reading, VersionValue, StandsForCertificate, certificate_complaints, certificate_from, object_complaints, entries_complaints, entries_from, state_rows, state_from, misfits, version_misfits};
+ghost use Rattle.asl_shape.specs.Spelled.{member_named, tree_there};
+ghost use Rattle.asl_tree.specs.View.{view, entries_view};
 ghost use Rattle.asl_numbered.specs.Expansion.{Keeps};
 ghost use Rattle.asl_records.specs.Numbered.{AreWithin, numbered_view};
 ghost use Rattle.asl_records.specs.Listed.{AreInTable, ForReading};
@@ -10,56 +12,55 @@ ghost use Rattle.asl_records.specs.Numbering.{AreStateOf, AreStatesOf};
 ghost use Rattle.asl_records.specs.Proper.{IsProperCertificate};
 ghost use Rattle.asl_records.specs.View.{certificate_view};
 ghost use Rattle.asl_records.specs.Refusal.{IsCertificateRefusal};
-ghost use Rattle.asl_records.specs.Parts.{AreWhole, IsWhole, TellsOneOf, certified, certified_complaints, field_complaints, is_number, states_complaints, states_there, value_in, version_row};
+ghost use Rattle.asl_records.specs.Parts.{TellsOneOf, complaint_of, certified, certified_complaints, field_complaints, is_number, states_complaints, states_there, version_row};
+ghost use Rattle.asl_records.specs.Values.{AreMembers, For, Gives, IsPart, IsValue};
 
-use crate::fields::{Reader, entries, take};
+use crate::fields::{Reader, entries, stated};
 use crate::listed::read_listed;
 use crate::numbering::expand_certificate;
 use crate::records::{Certificate, NumberedCertificate, StateNumbers};
 use crate::refusals::{ReadFault, RecordFault};
 use asl_numbered::Shapes;
-use serde_json::{Map, Value};
+use asl_tree::Tree;
 use std::alloc::Global;
 use std::collections::BTreeMap;
 
-/// The certificate that a JSON value stands for: of version 1, or of version 2, in which shapes may be of several kinds,
-/// with a list of types. Each of its shapes is proper.
+/// The certificate that a tree stands for: of version 1, or of version 2, in which shapes may be of several kinds, with a
+/// list of types. Each of its shapes is proper.
 ///
-/// Refuses where a rule is broken, with a fault that stands there; also where it is broken in a listed shape that nothing
-/// refers to. Of a list of types in version 1 the fault is `BadShape` with `BadType`.
-pub fn read_certificate(alloc: Global, value: Value) -> Result<Certificate, ReadFault>
-    ensures certificate { IfOk result
-        (λ certificate. StandsForCertificate (view value) (certificate_view certificate)) }
+/// Refuses where a rule is broken, with a fault that stands there, also where it is broken in a listed shape that nothing
+/// refers to; and where an allocation was refused. Of a list of types in version 1 the fault is `BadShape` with `BadType`.
+pub fn read_certificate(alloc: Global, tree: &Tree) -> Result<Certificate, ReadFault>
+    ensures certificate { IfOk result (λ certificate. For (IsValue (view tree.now))
+        (λ v. StandsForCertificate v (certificate_view certificate))) }
     ensures proper { IfOk result IsProperCertificate }
-    ensures refused { IfErr result (IsCertificateRefusal (view value)) }
+    ensures refused { IfErr result
+        (λ fault. For (IsValue (view tree.now)) (λ v. IsCertificateRefusal v fault)) }
 {
-    let numbered = read_numbered(alloc, value)?;
+    let numbered = read_numbered(alloc, tree)?;
     Ok(expand_certificate(alloc, &numbered)?)
 }
 
 /// The same with its shapes in a table, each distinct one once. The table may have further shapes, such as those that are
 /// listed and not referred to.
-pub fn read_numbered(alloc: Global, value: Value) -> Result<NumberedCertificate, ReadFault>
-    ensures certificate { IfOk result
-        (λ certificate. StandsForCertificate (view value) (numbered_view certificate)) }
+pub fn read_numbered(alloc: Global, tree: &Tree) -> Result<NumberedCertificate, ReadFault>
+    ensures certificate { IfOk result (λ certificate. For (IsValue (view tree.now))
+        (λ v. StandsForCertificate v (numbered_view certificate))) }
     ensures within { IfOk result AreWithin }
-    ensures refused { IfErr result (IsCertificateRefusal (view value)) }
+    ensures refused { IfErr result
+        (λ fault. For (IsValue (view tree.now)) (λ v. IsCertificateRefusal v fault)) }
 {
-    if asl_tree::is_whole(&value) {
-        read_record(alloc, value)
-    } else {
-        Err(ReadFault::NotWhole)
-    }
+    read_record(alloc, tree)
 }
 
-/// The certificate that a JSON value with whole numbers stands for.
-fn read_record(alloc: Global, value: Value) -> Result<NumberedCertificate, ReadFault>
-    requires { IsWhole (view value) }
-    ensures right { OnOk result (certificate_complaints (view value) ≡ []) }
-    ensures certificate { IfOk result
-        (λ certificate. numbered_view certificate ≡ certificate_from (view value)) }
+/// The same, by the complaints about it.
+fn read_record(alloc: Global, tree: &Tree) -> Result<NumberedCertificate, ReadFault>
+    ensures right { OnOk result (For (IsValue (view tree.now)) (λ v. certificate_complaints v ≡ [])) }
+    ensures certificate { IfOk result (λ certificate. For (IsValue (view tree.now))
+        (λ v. numbered_view certificate ≡ certificate_from v)) }
     ensures within { IfOk result AreWithin }
-    ensures refused { IfErr result (TellsOneOf (certificate_complaints (view value))) }
+    ensures refused { IfErr result (λ fault. For (IsValue (view tree.now))
+        (λ v. TellsOneOf (certificate_complaints v) fault)) }
 {
     let record = Reader {
         alloc,
@@ -67,11 +68,11 @@ fn read_record(alloc: Global, value: Value) -> Result<NumberedCertificate, ReadF
         several: false,
         listed: None,
     };
-    let mut fields = record.members(value)?;
-    record.check_fields(&fields, &["version", "shapes", "output", "states"])?;
-    let several = read_version(alloc, take(&mut fields, "version"))?;
+    let fields = record.fields(tree)?;
+    record.check_fields(fields, &["version", "shapes", "output", "states"])?;
+    let several = read_version(alloc, stated(fields, "version"))?;
     let mut shapes = Shapes::new(alloc);
-    let numbers = read_listed(alloc, several, &mut shapes, &mut fields)?;
+    let numbers = read_listed(alloc, several, &mut shapes, fields)?;
     let reader = Reader {
         several,
         listed: numbers.as_deref(),
@@ -84,25 +85,27 @@ fn read_record(alloc: Global, value: Value) -> Result<NumberedCertificate, ReadF
 fn read_parts(
     reader: Reader<'_>,
     mut shapes: Shapes,
-    mut fields: Map<String, Value>,
+    fields: &BTreeMap<String, Tree>,
 ) -> Result<NumberedCertificate, ReadFault>
-    requires whole { AreWhole (members_view fields.entries) }
     requires listed { AreInTable shapes reader.listed }
     ensures right { OnOk result (ForReading reader.entry.several shapes reader.entry.listed
-        (λ reading. certified_complaints reading fields.entries ≡ [])) }
+        (λ reading. For (AreMembers (entries_view fields.now.entries))
+        (λ ms. certified_complaints reading ms ≡ []))) }
     ensures certificate { IfOk result
         (λ certificate. ForReading reader.entry.several shapes reader.entry.listed
-        (λ reading. numbered_view certificate ≡ certified reading.listed fields.entries)) }
+        (λ reading. For (AreMembers (entries_view fields.now.entries))
+        (λ ms. numbered_view certificate ≡ certified reading.listed ms))) }
     ensures within { IfOk result
         (λ certificate. ForReading reader.entry.several shapes reader.entry.listed
         (λ _. AreWithin certificate)) }
     ensures refused { IfErr result
         (λ fault. ForReading reader.entry.several shapes reader.entry.listed
-        (λ reading. TellsOneOf (certified_complaints reading fields.entries) fault)) }
+        (λ reading. For (AreMembers (entries_view fields.now.entries))
+        (λ ms. TellsOneOf (certified_complaints reading ms) fault))) }
 {
     let record = Reader { name: "", ..reader };
-    let output = record.required_number(&mut shapes, "output", &mut fields)?;
-    let states = read_states(reader, &mut shapes, &mut fields)?;
+    let output = record.required_number(&mut shapes, "output", fields)?;
+    let states = read_states(reader, &mut shapes, fields)?;
     Ok(NumberedCertificate {
         shapes,
         output,
@@ -114,52 +117,74 @@ fn read_parts(
 ///
 /// Refused: MissingField where there is none, WrongKind where it is no integer, BadVersion where it is another one; OutOfMemory
 /// where an allocation was refused.
-pub fn read_version(alloc: Global, version: Option<Value>) -> Result<bool, ReadFault>
-    requires { IfSome version (λ v. IsWhole (view v)) }
-    ensures right { OnOk result ((reading : Reading)
-        → field_complaints reading [] version_row (option_map view version) ≡ []) }
-    ensures several { IfOk result
-        (λ several. several ≡ is_number (pos 2) (option_map view version)) }
-    ensures refused { IfErr result (λ fault. (reading : Reading)
-        → TellsOneOf (field_complaints reading [] version_row (option_map view version)) fault) }
+pub fn read_version(alloc: Global, version: Option<&Tree>) -> Result<bool, ReadFault>
+    ensures right { OnOk result (For (IsPart (tree_there version.entry)) (λ part. (reading : Reading)
+        → field_complaints reading [] version_row part ≡ [])) }
+    ensures several { IfOk result (λ several. For (IsPart (tree_there version.entry))
+        (λ part. several ≡ is_number (pos 2) part)) }
+    ensures refused { IfErr result (λ fault. For (IsPart (tree_there version.entry))
+        (λ part. (reading : Reading)
+        → TellsOneOf (field_complaints reading [] version_row part) fault)) }
 {
     match version {
-        Some(version) => match version.as_i64() {
-            Some(number) => {
-                if number != 1 && number != 2 {
-                    return Err(ReadFault::record(alloc, RecordFault::BadVersion, "", "version"));
-                }
-                Ok(number == 2)
-            }
-            None => Err(ReadFault::record(alloc, RecordFault::WrongKind, "", "version")),
-        },
+        Some(tree) => several_in(alloc, tree),
         None => Err(ReadFault::record(alloc, RecordFault::MissingField, "", "version")),
     }
 }
 
-/// Takes the field `states` out of the record, and reads the shapes of all states.
+/// Whether lists of types may stand in a certificate of the version that the tree is.
+fn several_in(alloc: Global, tree: &Tree) -> Result<bool, ReadFault>
+    ensures right { OnOk result (For (IsValue (view tree.now)) (λ v. (reading : Reading)
+        → misfits reading VersionValue v ≡ [])) }
+    ensures several { IfOk result (λ several. For (IsValue (view tree.now))
+        (λ v. several ≡ is_number (pos 2) (Some v))) }
+    ensures refused { IfErr result (λ fault. For (IsValue (view tree.now))
+        (λ v. (reading : Reading)
+        → TellsOneOf (map (complaint_of [] (codes "version"))
+        (misfits reading VersionValue v)) fault)) }
+{
+    match tree {
+        Tree::Int(number) => several_of(alloc, number),
+        Tree::Null | Tree::Bool(_) | Tree::Text(_) | Tree::List(_) | Tree::Object(_) => {
+            Err(ReadFault::record(alloc, RecordFault::WrongKind, "", "version"))
+        }
+    }
+}
+
+/// Whether lists of types may stand in a certificate of the version of that number.
+fn several_of(alloc: Global, number: &i64) -> Result<bool, ReadFault>
+    ensures right { OnOk result (version_misfits (Some number.now) ≡ []) }
+    ensures several { IfOk result (λ several. several ≡ int_eq (pos 2) number.now) }
+    ensures refused { IfErr result (TellsOneOf
+        (map (complaint_of [] (codes "version")) (version_misfits (Some number.now)))) }
+{
+    if *number != 1 && *number != 2 {
+        return Err(ReadFault::record(alloc, RecordFault::BadVersion, "", "version"));
+    }
+    Ok(*number == 2)
+}
+
+/// The shapes of all states, which stand in the field `states`.
 fn read_states(
     reader: Reader<'_>,
     shapes: &mut Shapes,
-    fields: &mut Map<String, Value>,
+    fields: &BTreeMap<String, Tree>,
 ) -> Result<BTreeMap<String, StateNumbers>, ReadFault>
-    requires whole { AreWhole (members_view fields.old.entries) }
     requires listed { AreInTable shapes.old reader.listed }
     ensures right { OnOk result (ForReading reader.entry.several shapes.old reader.entry.listed
-        (λ reading. states_complaints reading
-        (value_in (codes "states") fields.old.entries) ≡ [])) }
+        (λ reading. For (IsPart (member_named (codes "states") fields.now.entries))
+        (λ part. states_complaints reading part ≡ []))) }
     ensures states { IfOk result
         (λ states. ForReading reader.entry.several shapes.old reader.entry.listed
-        (λ reading. AreStatesOf shapes.new
-        (states_there reading.listed
-        (value_in (codes "states") fields.old.entries)) states.entries)) }
+        (λ reading. Gives (IsPart (member_named (codes "states") fields.now.entries))
+        (states_there reading.listed) (λ all. AreStatesOf shapes.new all states.entries))) }
     ensures refused { IfErr result
         (λ fault. ForReading reader.entry.several shapes.old reader.entry.listed
-        (λ reading. TellsOneOf (states_complaints reading
-        (value_in (codes "states") fields.old.entries)) fault)) }
+        (λ reading. For (IsPart (member_named (codes "states") fields.now.entries))
+        (λ part. TellsOneOf (states_complaints reading part) fault))) }
     ensures keeps { Keeps shapes.old shapes.new }
 {
-    match take(fields, "states") {
+    match stated(fields, "states") {
         Some(states) => read_entries(reader, shapes, entries(reader.alloc, "states", states)?),
         None => Err(ReadFault::record(reader.alloc, RecordFault::MissingField, "", "states")),
     }
@@ -169,26 +194,28 @@ fn read_states(
 fn read_entries(
     reader: Reader<'_>,
     shapes: &mut Shapes,
-    entries: Map<String, Value>,
+    entries: &BTreeMap<String, Tree>,
 ) -> Result<BTreeMap<String, StateNumbers>, ReadFault>
-    requires whole { AreWhole (members_view entries.entries) }
     requires listed { AreInTable shapes.old reader.listed }
     ensures right { OnOk result (ForReading reader.entry.several shapes.old reader.entry.listed
-        (λ reading. entries_complaints reading state_rows (members_view entries.entries) ≡ [])) }
+        (λ reading. For (AreMembers (entries_view entries.now.entries))
+        (λ ms. entries_complaints reading state_rows ms ≡ []))) }
     ensures states { IfOk result
         (λ states. ForReading reader.entry.several shapes.old reader.entry.listed
-        (λ reading. AreStatesOf shapes.new
-        (entries_from (state_from reading.listed) (members_view entries.entries)) states.entries)) }
+        (λ reading. Gives (AreMembers (entries_view entries.now.entries))
+        (entries_from (state_from reading.listed))
+        (λ all. AreStatesOf shapes.new all states.entries))) }
     ensures refused { IfErr result
         (λ fault. ForReading reader.entry.several shapes.old reader.entry.listed
-        (λ reading. TellsOneOf (entries_complaints reading state_rows
-        (members_view entries.entries)) fault)) }
+        (λ reading. For (AreMembers (entries_view entries.now.entries))
+        (λ ms. TellsOneOf (entries_complaints reading state_rows ms) fault))) }
     ensures keeps { Keeps shapes.old shapes.new }
 {
     let mut states = BTreeMap::new(reader.alloc);
-    for (name, state) in entries {
-        let state = read_state(reader, shapes, &name, state)?;
-        drop(states.insert(name, state)?);
+    for (name, tree) in entries.iter() {
+        let state = read_state(reader, shapes, name, tree)?;
+        let key = name.clone()?;
+        drop(states.insert(key, state)?);
     }
     Ok(states)
 }
@@ -201,28 +228,29 @@ pub fn read_state(
     reader: Reader<'_>,
     shapes: &mut Shapes,
     name: &str,
-    value: Value,
+    tree: &Tree,
 ) -> Result<StateNumbers, ReadFault>
-    requires whole { IsWhole (view value) }
     requires listed { AreInTable shapes.old reader.listed }
     ensures right { OnOk result (ForReading reader.entry.several shapes.old reader.entry.listed
-        (λ reading. object_complaints reading name.now state_rows (view value) ≡ [])) }
+        (λ reading. For (IsValue (view tree.now))
+        (λ v. object_complaints reading name.now state_rows v ≡ []))) }
     ensures numbers { IfOk result
         (λ state. ForReading reader.entry.several shapes.old reader.entry.listed
-        (λ reading. AreStateOf shapes.new (state_from reading.listed (view value)) state)) }
+        (λ reading. Gives (IsValue (view tree.now)) (state_from reading.listed)
+        (λ shapes_of. AreStateOf shapes.new shapes_of state))) }
     ensures refused { IfErr result
         (λ fault. ForReading reader.entry.several shapes.old reader.entry.listed
-        (λ reading. TellsOneOf (object_complaints reading name.now state_rows
-        (view value)) fault)) }
+        (λ reading. For (IsValue (view tree.now))
+        (λ v. TellsOneOf (object_complaints reading name.now state_rows v) fault))) }
     ensures keeps { Keeps shapes.old shapes.new }
 {
     let state = Reader { name, ..reader };
-    let mut fields = state.members(value)?;
-    state.check_fields(&fields, &["input", "output", "branches", "item"])?;
+    let fields = state.fields(tree)?;
+    state.check_fields(fields, &["input", "output", "branches", "item"])?;
     Ok(StateNumbers {
-        input: state.required_number(shapes, "input", &mut fields)?,
-        output: state.required_number(shapes, "output", &mut fields)?,
-        branches: state.optional_numbers(shapes, "branches", &mut fields)?,
-        item: state.optional_number(shapes, "item", &mut fields)?,
+        input: state.required_number(shapes, "input", fields)?,
+        output: state.required_number(shapes, "output", fields)?,
+        branches: state.optional_numbers(shapes, "branches", fields)?,
+        item: state.optional_number(shapes, "item", fields)?,
     })
 }

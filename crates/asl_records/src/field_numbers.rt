@@ -1,77 +1,77 @@
 // The shapes in the fields of a certificate, read into a table.
 
 ghost use Rattle.std.specs.Prelude.{◌≡◌, List, [], map, true, false, Some, option_map, Contains, IfOk, IfErr, IfSome, OnOk};
-ghost use Rattle.serde_json.specs.View.{view, items_view, members_view};
-ghost use Rattle.asl_model.specs.Json.{tree_of};
 ghost use Rattle.asl_model.specs.Records.{RecordComplaint, ShapesValue, misfits, shape_from, shapes_from};
-ghost use Rattle.asl_model.specs.Tree.{Tree};
+ghost use Rattle.asl_shape.specs.Spelled.{member_named};
+ghost use Rattle.asl_tree.specs.View.{view, elements_view};
 ghost use Rattle.asl_numbered.specs.Expansion.{shape_at, IsNumberOf, Keeps};
 ghost use Rattle.asl_numbered.specs.References.{shapes_given, SpellsWith, TellsOf};
 ghost use Rattle.asl_records.specs.Listed.{AreInTable, ForReading};
 ghost use Rattle.asl_records.specs.Numbering.{AreListOf, IsItemOf};
-ghost use Rattle.asl_records.specs.Parts.{AreWhole, ElementsAreWhole, IsWhole, Takes, TellsOneOf, complaint_of, fault_told, field_complaints, shape_complaints, shape_row, shape_there, shapes_complaints, shapes_row, shapes_there, value_in};
+ghost use Rattle.asl_records.specs.Parts.{TellsOneOf, complaint_of, fault_told, field_complaints, shape_row, shape_there, shapes_complaints, shapes_row, shapes_there, tree_complaints, tree_shape};
+ghost use Rattle.asl_records.specs.Values.{AreItems, For, Gives, IsPart, IsValue};
 
-use crate::fields::{Reader, take};
+use crate::fields::{Reader, stated};
 use crate::refusals::{ReadFault, RecordFault};
 use asl_numbered::{NumberedRefusal, Shapes};
-use serde_json::{Map, Value};
+use asl_tree::Tree;
+use std::collections::BTreeMap;
 
 impl Reader<'_> {
-    /// Takes a field that has to be there, and reads the number of its shape.
+    /// The number of the shape of a field that has to be there.
     pub(crate) fn required_number(
         &self,
         shapes: &mut Shapes,
         field: &'static str,
-        fields: &mut Map<String, Value>,
+        fields: &BTreeMap<String, Tree>,
     ) -> Result<usize, ReadFault>
-        requires whole { AreWhole (members_view fields.old.entries) }
         requires listed { AreInTable shapes.old self.now.listed }
-        ensures taken { Takes field.now fields.old.entries fields.new.entries }
         ensures right { OnOk result (ForReading self.now.several shapes.old self.now.listed
-            (λ reading. field_complaints reading self.now.name.now
-            (shape_row field.now true) (value_in field.now fields.old.entries) ≡ [])) }
+            (λ reading. For (IsPart (member_named field.now fields.now.entries))
+            (λ part. field_complaints reading self.now.name.now
+            (shape_row field.now true) part ≡ []))) }
         ensures number { IfOk result
             (λ number. ForReading self.now.several shapes.old self.now.listed
-            (λ reading. IsNumberOf shapes.new
-            (shape_there reading.listed (value_in field.now fields.old.entries)) number)) }
+            (λ reading. Gives (IsPart (member_named field.now fields.now.entries))
+            (shape_there reading.listed) (λ shape. IsNumberOf shapes.new shape number))) }
         ensures refused { IfErr result
             (λ fault. ForReading self.now.several shapes.old self.now.listed
-            (λ reading. TellsOneOf (field_complaints reading self.now.name.now
-            (shape_row field.now true) (value_in field.now fields.old.entries)) fault)) }
+            (λ reading. For (IsPart (member_named field.now fields.now.entries))
+            (λ part. TellsOneOf (field_complaints reading self.now.name.now
+            (shape_row field.now true) part) fault))) }
         ensures keeps { Keeps shapes.old shapes.new }
     {
-        match take(fields, field) {
-            Some(value) => self.read_number(shapes, field, value),
+        match stated(fields, field) {
+            Some(tree) => self.read_number(shapes, field, tree),
             None => Err(self.refuse(RecordFault::MissingField, field)),
         }
     }
 
-    /// Takes a field that may be there, and reads the number of its shape.
+    /// The number of the shape of a field that may be there.
     pub(crate) fn optional_number(
         &self,
         shapes: &mut Shapes,
         field: &'static str,
-        fields: &mut Map<String, Value>,
+        fields: &BTreeMap<String, Tree>,
     ) -> Result<Option<usize>, ReadFault>
-        requires whole { AreWhole (members_view fields.old.entries) }
         requires listed { AreInTable shapes.old self.now.listed }
-        ensures taken { Takes field.now fields.old.entries fields.new.entries }
         ensures right { OnOk result (ForReading self.now.several shapes.old self.now.listed
-            (λ reading. field_complaints reading self.now.name.now
-            (shape_row field.now false) (value_in field.now fields.old.entries) ≡ [])) }
+            (λ reading. For (IsPart (member_named field.now fields.now.entries))
+            (λ part. field_complaints reading self.now.name.now
+            (shape_row field.now false) part ≡ []))) }
         ensures number { IfOk result
             (λ number. ForReading self.now.several shapes.old self.now.listed
-            (λ reading. IsItemOf shapes.new
-            (option_map (shape_from reading.listed)
-            (value_in field.now fields.old.entries)) number)) }
+            (λ reading. Gives (IsPart (member_named field.now fields.now.entries))
+            (option_map (shape_from reading.listed)) (λ shape. IsItemOf shapes.new shape number))) }
         ensures refused { IfErr result
             (λ fault. ForReading self.now.several shapes.old self.now.listed
-            (λ reading. TellsOneOf (field_complaints reading self.now.name.now
-            (shape_row field.now false) (value_in field.now fields.old.entries)) fault)) }
+            (λ reading. For (IsPart (member_named field.now fields.now.entries))
+            (λ part. TellsOneOf (field_complaints reading self.now.name.now
+            (shape_row field.now false) part) fault))) }
         ensures keeps { Keeps shapes.old shapes.new }
     {
-        match take(fields, field) {
-            Some(value) => match self.read_number(shapes, field, value) {
+        match stated(fields, field) {
+            Some(tree) => match self.read_number(shapes, field, tree) {
                 Ok(number) => Ok(Some(number)),
                 Err(fault) => Err(fault),
             },
@@ -79,31 +79,31 @@ impl Reader<'_> {
         }
     }
 
-    /// Takes a field that may be there, and reads the numbers of its list of shapes: none where it isn't there.
+    /// The numbers of the list of shapes of a field that may be there: none where it isn't.
     pub(crate) fn optional_numbers(
         &self,
         shapes: &mut Shapes,
         field: &'static str,
-        fields: &mut Map<String, Value>,
+        fields: &BTreeMap<String, Tree>,
     ) -> Result<Vec<usize>, ReadFault>
-        requires whole { AreWhole (members_view fields.old.entries) }
         requires listed { AreInTable shapes.old self.now.listed }
-        ensures taken { Takes field.now fields.old.entries fields.new.entries }
         ensures right { OnOk result (ForReading self.now.several shapes.old self.now.listed
-            (λ reading. field_complaints reading self.now.name.now
-            (shapes_row field.now) (value_in field.now fields.old.entries) ≡ [])) }
+            (λ reading. For (IsPart (member_named field.now fields.now.entries))
+            (λ part. field_complaints reading self.now.name.now
+            (shapes_row field.now) part ≡ []))) }
         ensures numbers { IfOk result
             (λ numbers. ForReading self.now.several shapes.old self.now.listed
-            (λ reading. AreListOf shapes.new
-            (shapes_there reading.listed (value_in field.now fields.old.entries)) numbers.items)) }
+            (λ reading. Gives (IsPart (member_named field.now fields.now.entries))
+            (shapes_there reading.listed) (λ all. AreListOf shapes.new all numbers.items))) }
         ensures refused { IfErr result
             (λ fault. ForReading self.now.several shapes.old self.now.listed
-            (λ reading. TellsOneOf (field_complaints reading self.now.name.now
-            (shapes_row field.now) (value_in field.now fields.old.entries)) fault)) }
+            (λ reading. For (IsPart (member_named field.now fields.now.entries))
+            (λ part. TellsOneOf (field_complaints reading self.now.name.now
+            (shapes_row field.now) part) fault))) }
         ensures keeps { Keeps shapes.old shapes.new }
     {
-        match take(fields, field) {
-            Some(value) => self.read_list(shapes, field, value),
+        match stated(fields, field) {
+            Some(tree) => self.read_list(shapes, field, tree),
             None => Ok(Vec::new(self.alloc)),
         }
     }
@@ -113,27 +113,30 @@ impl Reader<'_> {
         &self,
         shapes: &mut Shapes,
         field: &str,
-        value: Value,
+        tree: &Tree,
     ) -> Result<Vec<usize>, ReadFault>
-        requires whole { IsWhole (view value) }
         requires listed { AreInTable shapes.old self.now.listed }
         ensures right { OnOk result (ForReading self.now.several shapes.old self.now.listed
-            (λ reading. map (complaint_of self.now.name.now field.now)
-            (misfits reading ShapesValue (view value)) ≡ [])) }
+            (λ reading. For (IsValue (view tree.now))
+            (λ v. map (complaint_of self.now.name.now field.now)
+            (misfits reading ShapesValue v) ≡ []))) }
         ensures numbers { IfOk result
             (λ numbers. ForReading self.now.several shapes.old self.now.listed
-            (λ reading. AreListOf shapes.new
-            (shapes_there reading.listed (Some (view value))) numbers.items)) }
+            (λ reading. Gives (IsValue (view tree.now))
+            (λ v. shapes_there reading.listed (Some v))
+            (λ all. AreListOf shapes.new all numbers.items))) }
         ensures refused { IfErr result
             (λ fault. ForReading self.now.several shapes.old self.now.listed
-            (λ reading. TellsOneOf (map (complaint_of self.now.name.now field.now)
-            (misfits reading ShapesValue (view value))) fault)) }
+            (λ reading. For (IsValue (view tree.now))
+            (λ v. TellsOneOf (map (complaint_of self.now.name.now field.now)
+            (misfits reading ShapesValue v)) fault))) }
         ensures keeps { Keeps shapes.old shapes.new }
     {
-        match value {
-            Value::Array(elements) => self.read_numbers(shapes, field, elements),
-            Value::Null | Value::Bool(_) | Value::Number(_) | Value::String(_) | Value::Object(_) =>
-                Err(self.refuse(RecordFault::WrongKind, field)),
+        match tree {
+            Tree::List(elements) => self.read_numbers(shapes, field, elements),
+            Tree::Null | Tree::Bool(_) | Tree::Int(_) | Tree::Text(_) | Tree::Object(_) => {
+                Err(self.refuse(RecordFault::WrongKind, field))
+            }
         }
     }
 
@@ -142,21 +145,21 @@ impl Reader<'_> {
         &self,
         shapes: &mut Shapes,
         field: &str,
-        elements: Vec<Value>,
+        elements: &[Tree],
     ) -> Result<Vec<usize>, ReadFault>
-        requires whole { ElementsAreWhole (items_view elements.items) }
         requires listed { AreInTable shapes.old self.now.listed }
         ensures right { OnOk result (ForReading self.now.several shapes.old self.now.listed
-            (λ reading. shapes_complaints reading self.now.name.now field.now
-            (items_view elements.items) ≡ [])) }
+            (λ reading. For (AreItems (elements_view elements.now))
+            (λ vs. shapes_complaints reading self.now.name.now field.now vs ≡ []))) }
         ensures numbers { IfOk result
             (λ numbers. ForReading self.now.several shapes.old self.now.listed
-            (λ reading. AreListOf shapes.new
-            (shapes_from reading.listed (items_view elements.items)) numbers.items)) }
+            (λ reading. Gives (AreItems (elements_view elements.now))
+            (shapes_from reading.listed) (λ all. AreListOf shapes.new all numbers.items))) }
         ensures refused { IfErr result
             (λ fault. ForReading self.now.several shapes.old self.now.listed
-            (λ reading. TellsOneOf (shapes_complaints reading self.now.name.now field.now
-            (items_view elements.items)) fault)) }
+            (λ reading. For (AreItems (elements_view elements.now))
+            (λ vs. TellsOneOf
+            (shapes_complaints reading self.now.name.now field.now vs) fault))) }
         ensures keeps { Keeps shapes.old shapes.new }
     {
         let mut numbers = Vec::with_capacity(self.alloc, elements.len())?;
@@ -166,55 +169,52 @@ impl Reader<'_> {
         Ok(numbers)
     }
 
-    /// The number of the shape that a field's value stands for. The shape comes into the table, and what is in it stays.
+    /// The number of the shape that a field's tree stands for. The shape comes into the table, and what is in it stays.
     ///
-    /// Refuses where the value breaks a rule, with a fault that stands there, and where an allocation was refused.
+    /// Refuses where the tree breaks a rule, with a fault that stands there, and where an allocation was refused.
     pub fn read_number(
         &self,
         shapes: &mut Shapes,
         field: &str,
-        value: Value,
+        tree: &Tree,
     ) -> Result<usize, ReadFault>
-        requires whole { IsWhole (view value) }
         requires listed { AreInTable shapes.old self.now.listed }
         ensures right { OnOk result (ForReading self.now.several shapes.old self.now.listed
-            (λ reading. shape_complaints reading self.now.name.now field.now (view value) ≡ [])) }
+            (λ reading. tree_complaints reading self.now.name.now field.now (view tree.now) ≡ [])) }
         ensures number { IfOk result
             (λ number. ForReading self.now.several shapes.old self.now.listed
-            (λ reading. IsNumberOf shapes.new (shape_from reading.listed (view value)) number)) }
+            (λ reading. IsNumberOf shapes.new (tree_shape reading.listed (view tree.now)) number)) }
         ensures refused { IfErr result
             (λ fault. ForReading self.now.several shapes.old self.now.listed
-            (λ reading. TellsOneOf (shape_complaints reading self.now.name.now field.now
-            (view value)) fault)) }
+            (λ reading. TellsOneOf
+            (tree_complaints reading self.now.name.now field.now (view tree.now)) fault)) }
         ensures keeps { Keeps shapes.old shapes.new }
     {
-        let answer = self.read_spelled(shapes, &value);
-        drop(value);
-        match answer {
+        match self.read_spelled(shapes, tree) {
             Ok(number) => Ok(number),
             Err(refusal) => Err(self.no_number(refusal, field)),
         }
     }
 
-    /// The number of the shape that the value spells, with lists of types where these may stand.
-    fn read_spelled(&self, shapes: &mut Shapes, value: &Value) -> Result<usize, NumberedRefusal>
+    /// The number of the shape that the tree spells, with lists of types where these may stand.
+    fn read_spelled(&self, shapes: &mut Shapes, tree: &Tree) -> Result<usize, NumberedRefusal>
         requires listed { AreInTable shapes.old self.now.listed }
         ensures number { IfOk result (λ n. IsNumberOf shapes.new (shape_at shapes.new n) n) }
-        ensures spelled { IfOk result (λ n. (t : Tree) → tree_of (view value.now) ≡ Some t
-            → SpellsWith self.now.several (shapes_given shapes.old self.now.listed) t
-            (shape_at shapes.new n)) }
-        ensures refused { IfErr result (λ e. (t : Tree) → tree_of (view value.now) ≡ Some t
-            → TellsOf self.now.several (shapes_given shapes.old self.now.listed) t e) }
+        ensures spelled { IfOk result
+            (λ n. SpellsWith self.now.several (shapes_given shapes.old self.now.listed)
+            (view tree.now) (shape_at shapes.new n)) }
+        ensures refused { IfErr result
+            (TellsOf self.now.several (shapes_given shapes.old self.now.listed) (view tree.now)) }
         ensures keeps { Keeps shapes.old shapes.new }
     {
         if self.several {
-            shapes.read_value_with(value, self.listed)
+            shapes.read_with(tree, self.listed)
         } else {
-            shapes.read_value_with_v1(value, self.listed)
+            shapes.read_with_v1(tree, self.listed)
         }
     }
 
-    /// What is told of a field whose value is refused as a shape, or for a reference in it.
+    /// What is told of a field whose tree is refused as a shape, or for a reference in it.
     fn no_number(&self, refusal: NumberedRefusal, field: &str) -> ReadFault
         ensures { (wrong : List RecordComplaint) → IfSome (fault_told refusal)
             (λ fault. Contains wrong (complaint_of self.now.name.now field.now fault))

@@ -2,22 +2,24 @@
 
 ghost use Rattle.std.specs.Prelude.{◌≡◌, List, [], ◌∷◌, map, true, false, Option, Some, None, option_map, IfOk, IfErr, IfSome, OnOk, codes};
 ghost use Rattle.std.specs.List.{Contains};
-ghost use Rattle.serde_json.specs.Find.{as_object};
-ghost use Rattle.serde_json.specs.View.{view, members_view};
 ghost use Rattle.asl_model.specs.ShapeSpelling.{is_among};
 ghost use Rattle.asl_model.specs.Records as model;
-ghost use Rattle.asl_model.specs.Records.{Reading, RecordRow, RecordComplaint, BadShape, EntriesValue, declared_reading, misfits, object_complaints, shape_from, shape_misfits};
-ghost use Rattle.asl_model.specs.Tree.{Tree};
+ghost use Rattle.asl_model.specs.Records.{Reading, RecordRow, RecordComplaint, BadShape, EntriesValue, declared_reading, misfits, object_complaints, shape_from};
+ghost use Rattle.asl_model.specs.Tree.{Object};
 ghost use Rattle.asl_shape.specs.View.{view as shape_view};
 ghost use Rattle.asl_shape.specs.Refusal.{fault_named};
+ghost use Rattle.asl_shape.specs.Spelled.{member_named, tree_there};
+ghost use Rattle.asl_tree.specs.View.{view, entries_view};
 ghost use Rattle.asl_records.specs.View.{record_fault_view};
-ghost use Rattle.asl_records.specs.Parts.{AreWhole, IsWhole, Takes, TellsOneOf, complaint_of, field_complaints, foreign_complaints, shape_complaints, shape_row, shape_there, value_in};
+ghost use Rattle.asl_records.specs.Parts.{TellsOneOf, complaint_of, field_complaints, foreign_complaints, shape_row, shape_there, tree_complaints, tree_shape};
 ghost use Rattle.asl_records.specs.Proper.{IsProper};
+ghost use Rattle.asl_records.specs.Values.{AreMembers, For, IsPart, IsValue};
 
 use crate::refusals::{ReadFault, RecordFault};
 use asl_shape::{Shape, ShapeRefusal};
-use serde_json::{Map, Value};
+use asl_tree::Tree;
 use std::alloc::Global;
+use std::collections::BTreeMap;
 
 /// Reads the fields of a record, which has an empty name, or of its entry of that name. What is refused is told with
 /// the name.
@@ -32,35 +34,37 @@ pub struct Reader<'n> {
 }
 
 impl Reader<'_> {
-    /// The members of the record, or of its entry.
-    pub(crate) fn members(&self, value: Value) -> Result<Map<String, Value>, ReadFault>
-        requires { IsWhole (view value) }
-        ensures members { IfOk result
-            (λ members. as_object (view value) ≡ Some (members_view members.entries)) }
-        ensures whole { IfOk result (λ members. AreWhole (members_view members.entries)) }
+    /// The fields of the record, or of its entry.
+    pub(crate) fn fields<'t>(&self, tree: &'t Tree) -> Result<&'t BTreeMap<String, Tree>, ReadFault>
+        ensures fields { IfOk result
+            (λ fields. view tree.now ≡ Object (entries_view fields.now.entries)) }
         ensures refused { IfErr result
-            (λ fault. (reading : Reading) (rows : List RecordRow) → TellsOneOf
-            (object_complaints reading self.now.name.now rows (view value)) fault) }
+            (λ fault. (reading : Reading) (rows : List RecordRow) → For (IsValue (view tree.now))
+            (λ v. TellsOneOf (object_complaints reading self.now.name.now rows v) fault)) }
     {
-        match value {
-            Value::Object(members) => Ok(members),
-            Value::Null | Value::Bool(_) | Value::Number(_) | Value::String(_) | Value::Array(_) =>
-                Err(self.refuse(RecordFault::NotObject, "")),
+        match tree {
+            Tree::Object(fields) => Ok(fields),
+            Tree::Null | Tree::Bool(_) | Tree::Int(_) | Tree::Text(_) | Tree::List(_) => {
+                Err(self.refuse(RecordFault::NotObject, ""))
+            }
         }
     }
 
     /// Checks that each field is one of those known.
     pub(crate) fn check_fields(
         &self,
-        members: &Map<String, Value>,
+        fields: &BTreeMap<String, Tree>,
         known: &[&str],
     ) -> Result<(), ReadFault>
-        ensures right { OnOk result (foreign_complaints self.now.name.now
-            (map (λ field. field.now) known.now) (members_view members.now.entries) ≡ []) }
-        ensures refused { IfErr result (TellsOneOf (foreign_complaints self.now.name.now
-            (map (λ field. field.now) known.now) (members_view members.now.entries))) }
+        ensures right { OnOk result (For (AreMembers (entries_view fields.now.entries))
+            (λ ms. foreign_complaints self.now.name.now
+            (map (λ field. field.now) known.now) ms ≡ [])) }
+        ensures refused { IfErr result
+            (λ fault. For (AreMembers (entries_view fields.now.entries))
+            (λ ms. TellsOneOf (foreign_complaints self.now.name.now
+            (map (λ field. field.now) known.now) ms) fault)) }
     {
-        for (field, _) in members.iter() {
+        for (field, _) in fields.iter() {
             if !is_known(field, known) {
                 return Err(self.refuse(RecordFault::UnknownField, field));
             }
@@ -68,48 +72,50 @@ impl Reader<'_> {
         Ok(())
     }
 
-    /// Takes a field that has to be there, and reads its shape.
+    /// The shape of a field that has to be there.
     pub(crate) fn required_shape(
         &self,
         field: &'static str,
-        fields: &mut Map<String, Value>,
+        fields: &BTreeMap<String, Tree>,
     ) -> Result<Shape, ReadFault>
-        requires { AreWhole (members_view fields.old.entries) }
-        ensures taken { Takes field.now fields.old.entries fields.new.entries }
-        ensures right { OnOk result (field_complaints declared_reading self.now.name.now
-            (shape_row field.now true) (value_in field.now fields.old.entries) ≡ []) }
+        ensures right { OnOk result (For (IsPart (member_named field.now fields.now.entries))
+            (λ part. field_complaints declared_reading self.now.name.now
+            (shape_row field.now true) part ≡ [])) }
         ensures shape { IfOk result
-            (λ shape. shape_view shape ≡ shape_there None (value_in field.now fields.old.entries)) }
+            (λ shape. For (IsPart (member_named field.now fields.now.entries))
+            (λ part. shape_view shape ≡ shape_there None part)) }
         ensures proper { IfOk result IsProper }
         ensures refused { IfErr result
-            (TellsOneOf (field_complaints declared_reading self.now.name.now
-            (shape_row field.now true) (value_in field.now fields.old.entries))) }
+            (λ fault. For (IsPart (member_named field.now fields.now.entries))
+            (λ part. TellsOneOf (field_complaints declared_reading self.now.name.now
+            (shape_row field.now true) part) fault)) }
     {
-        match take(fields, field) {
-            Some(value) => self.read_shape(field, value),
+        match stated(fields, field) {
+            Some(tree) => self.read_shape(field, tree),
             None => Err(self.refuse(RecordFault::MissingField, field)),
         }
     }
 
-    /// Takes a field that may be there, and reads its shape.
+    /// The shape of a field that may be there.
     pub(crate) fn optional_shape(
         &self,
         field: &'static str,
-        fields: &mut Map<String, Value>,
+        fields: &BTreeMap<String, Tree>,
     ) -> Result<Option<Shape>, ReadFault>
-        requires { AreWhole (members_view fields.old.entries) }
-        ensures taken { Takes field.now fields.old.entries fields.new.entries }
-        ensures right { OnOk result (field_complaints declared_reading self.now.name.now
-            (shape_row field.now false) (value_in field.now fields.old.entries) ≡ []) }
-        ensures shape { IfOk result (λ shape. option_map shape_view shape
-            ≡ option_map (shape_from None) (value_in field.now fields.old.entries)) }
+        ensures right { OnOk result (For (IsPart (member_named field.now fields.now.entries))
+            (λ part. field_complaints declared_reading self.now.name.now
+            (shape_row field.now false) part ≡ [])) }
+        ensures shape { IfOk result
+            (λ shape. For (IsPart (member_named field.now fields.now.entries))
+            (λ part. option_map shape_view shape ≡ option_map (shape_from None) part)) }
         ensures proper { IfOk result (λ shape. IfSome shape IsProper) }
         ensures refused { IfErr result
-            (TellsOneOf (field_complaints declared_reading self.now.name.now
-            (shape_row field.now false) (value_in field.now fields.old.entries))) }
+            (λ fault. For (IsPart (member_named field.now fields.now.entries))
+            (λ part. TellsOneOf (field_complaints declared_reading self.now.name.now
+            (shape_row field.now false) part) fault)) }
     {
-        match take(fields, field) {
-            Some(value) => match self.read_shape(field, value) {
+        match stated(fields, field) {
+            Some(tree) => match self.read_shape(field, tree) {
                 Ok(shape) => Ok(Some(shape)),
                 Err(fault) => Err(fault),
             },
@@ -117,23 +123,22 @@ impl Reader<'_> {
         }
     }
 
-    /// The shape that a field's value stands for.
-    fn read_shape(&self, field: &str, value: Value) -> Result<Shape, ReadFault>
-        requires { IsWhole (view value) }
-        ensures right { OnOk result (shape_misfits declared_reading (view value) ≡ []) }
-        ensures shape { IfOk result (λ shape. shape_view shape ≡ shape_from None (view value)) }
+    /// The shape that a field's tree stands for.
+    fn read_shape(&self, field: &str, tree: &Tree) -> Result<Shape, ReadFault>
+        ensures right { OnOk result (tree_complaints declared_reading self.now.name.now field.now
+            (view tree.now) ≡ []) }
+        ensures shape { IfOk result (λ shape. shape_view shape ≡ tree_shape None (view tree.now)) }
         ensures proper { IfOk result IsProper }
-        ensures refused { IfErr result
-            (TellsOneOf (shape_complaints declared_reading self.now.name.now field.now
-            (view value))) }
+        ensures refused { IfErr result (TellsOneOf
+            (tree_complaints declared_reading self.now.name.now field.now (view tree.now))) }
     {
-        match asl_shape::read_value(self.alloc, &value) {
+        match asl_shape::read(self.alloc, tree) {
             Ok(shape) => Ok(shape),
             Err(refusal) => Err(self.no_shape(refusal, field)),
         }
     }
 
-    /// What is told of a field whose value is refused as a shape.
+    /// What is told of a field whose tree is refused as a shape.
     pub(crate) fn no_shape(&self, refusal: ShapeRefusal, field: &str) -> ReadFault
         ensures { (wrong : List RecordComplaint) → IfSome (fault_named refusal)
             (λ fault. Contains wrong (complaint_of self.now.name.now field.now (BadShape fault)))
@@ -157,23 +162,21 @@ impl Reader<'_> {
     }
 }
 
-/// The members of a field of the record.
-pub(crate) fn entries(
+/// The entries in a field of the record.
+pub(crate) fn entries<'t>(
     alloc: Global,
     field: &'static str,
-    value: Value,
-) -> Result<Map<String, Value>, ReadFault>
-    requires { IsWhole (view value) }
-    ensures members { IfOk result
-        (λ members. as_object (view value) ≡ Some (members_view members.entries)) }
-    ensures whole { IfOk result (λ members. AreWhole (members_view members.entries)) }
-    ensures refused { IfErr result
-        (TellsOneOf (map (complaint_of [] field.now)
-        (misfits declared_reading EntriesValue (view value)))) }
+    tree: &'t Tree,
+) -> Result<&'t BTreeMap<String, Tree>, ReadFault>
+    ensures entries { IfOk result
+        (λ entries. view tree.now ≡ Object (entries_view entries.now.entries)) }
+    ensures refused { IfErr result (λ fault. For (IsValue (view tree.now))
+        (λ v. TellsOneOf (map (complaint_of [] field.now)
+        (misfits declared_reading EntriesValue v)) fault)) }
 {
-    match value {
-        Value::Object(members) => Ok(members),
-        Value::Null | Value::Bool(_) | Value::Number(_) | Value::String(_) | Value::Array(_) => {
+    match tree {
+        Tree::Object(entries) => Ok(entries),
+        Tree::Null | Tree::Bool(_) | Tree::Int(_) | Tree::Text(_) | Tree::List(_) => {
             Err(ReadFault::record(alloc, RecordFault::WrongKind, "", field))
         }
     }
@@ -191,12 +194,9 @@ fn is_known(field: &str, known: &[&str]) -> bool
     false
 }
 
-/// Takes a field out of a record, or out of one of its entries.
-pub(crate) fn take(fields: &mut Map<String, Value>, field: &'static str) -> Option<Value>
-    requires { AreWhole (members_view fields.old.entries) }
-    ensures whole { IfSome result (λ value. IsWhole (view value)) }
-    ensures value { option_map view result ≡ value_in field.now fields.old.entries }
-    ensures taken { Takes field.now fields.old.entries fields.new.entries }
+/// What stands in a field.
+pub(crate) fn stated<'t>(fields: &'t BTreeMap<String, Tree>, field: &str) -> Option<&'t Tree>
+    ensures { tree_there result ≡ member_named field.now fields.now.entries }
 {
-    fields.remove(field)
+    fields.get(field)
 }

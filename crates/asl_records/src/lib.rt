@@ -1,10 +1,8 @@
 //! Declared shapes and certificates: what a user declares of a machine's input and tasks, the shapes that are to be
-//! checked, and how both are read from JSON values and written as trees.
+//! checked, and how both are read from trees and written as trees.
 //!
-//! Both are read by taking the JSON value apart: each part is let go as soon as its shape stands, so that there is
-//! never a second whole copy of a text. The shapes of a certificate are read into a table, where each distinct one
-//! stands once; [`number_certificate`] and [`expand_certificate`] lead there and back. A certificate may list shapes, and
-//! then have references to them.
+//! The shapes of a certificate are read into a table, where each distinct one stands once; [`number_certificate`] and
+//! [`expand_certificate`] lead there and back. A certificate may list shapes, and then have references to them.
 //!
 //! A shape of several kinds is spelled with a list of types. It may stand among declared shapes, which have no version,
 //! and in a certificate of version 2, but in none of version 1. [`Certificate::version`] and

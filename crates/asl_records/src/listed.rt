@@ -1,40 +1,42 @@
 // Reading the shapes that a certificate lists.
 
 ghost use Rattle.std.specs.Prelude.{◌≡◌, [], length, option_map, Some, IfOk, IfErr, IfSome, OnOk, codes};
-ghost use Rattle.serde_json.specs.View.{view, items_view, members_view};
 ghost use Rattle.asl_model.specs.Records.{listed_after};
+ghost use Rattle.asl_shape.specs.Spelled.{member_named};
+ghost use Rattle.asl_tree.specs.View.{view, elements_view};
 ghost use Rattle.asl_numbered.specs.Expansion.{AreBelow};
 ghost use Rattle.asl_records.specs.Listed.{AreMeant, IsReading};
-ghost use Rattle.asl_records.specs.Parts.{AreWhole, ElementsAreWhole, IsWhole, Takes, TellsOneOf, field_complaints, listed_row, listing_complaints, reading_of, trees_there, unlisted, value_in};
+ghost use Rattle.asl_records.specs.Parts.{TellsOneOf, field_complaints, listed_row, listing_complaints, reading_of, trees_there, unlisted};
+ghost use Rattle.asl_records.specs.Values.{AreItems, For, Gives, IsPart, IsValue};
 
-use crate::fields::{Reader, take};
+use crate::fields::{Reader, stated};
 use crate::refusals::{ReadFault, RecordFault};
 use asl_numbered::Shapes;
-use serde_json::{Map, Value};
+use asl_tree::Tree;
 use std::alloc::Global;
+use std::collections::BTreeMap;
 
-/// Takes the field `shapes` out of the record, and reads the numbers of the shapes listed there: `None` where it isn't
-/// there.
+/// The numbers of the shapes that the field `shapes` lists: `None` where it isn't there.
 pub(crate) fn read_listed(
     alloc: Global,
     several: bool,
     shapes: &mut Shapes,
-    fields: &mut Map<String, Value>,
+    fields: &BTreeMap<String, Tree>,
 ) -> Result<Option<Vec<usize>>, ReadFault>
-    requires { AreWhole (members_view fields.old.entries) }
-    ensures taken { Takes (codes "shapes") fields.old.entries fields.new.entries }
-    ensures right { OnOk result (field_complaints (unlisted several) [] listed_row
-        (value_in (codes "shapes") fields.old.entries) ≡ []) }
+    ensures right { OnOk result (For (IsPart (member_named (codes "shapes") fields.now.entries))
+        (λ part. field_complaints (unlisted several) [] listed_row part ≡ [])) }
     ensures below { IfOk result
         (λ numbers. IfSome numbers (λ ns. AreBelow (length shapes.new) ns.items)) }
     ensures meant { IfOk result
-        (λ numbers. IsReading several shapes.new (option_map (λ ns. ns.items) numbers)
-        (reading_of several (trees_there (value_in (codes "shapes") fields.old.entries)))) }
-    ensures refused { IfErr result (TellsOneOf (field_complaints (unlisted several) [] listed_row
-        (value_in (codes "shapes") fields.old.entries))) }
+        (λ numbers. Gives (IsPart (member_named (codes "shapes") fields.now.entries)) trees_there
+        (λ trees. IsReading several shapes.new (option_map (λ ns. ns.items) numbers)
+        (reading_of several trees))) }
+    ensures refused { IfErr result
+        (λ fault. For (IsPart (member_named (codes "shapes") fields.now.entries))
+        (λ part. TellsOneOf (field_complaints (unlisted several) [] listed_row part) fault)) }
 {
-    match take(fields, "shapes") {
-        Some(value) => Ok(Some(read_list(alloc, several, shapes, value)?)),
+    match stated(fields, "shapes") {
+        Some(tree) => Ok(Some(read_list(alloc, several, shapes, tree)?)),
         None => Ok(None),
     }
 }
@@ -44,21 +46,21 @@ fn read_list(
     alloc: Global,
     several: bool,
     shapes: &mut Shapes,
-    value: Value,
+    tree: &Tree,
 ) -> Result<Vec<usize>, ReadFault>
-    requires { IsWhole (view value) }
-    ensures right { OnOk result
-        (field_complaints (unlisted several) [] listed_row (Some (view value)) ≡ []) }
+    ensures right { OnOk result (For (IsValue (view tree.now))
+        (λ v. field_complaints (unlisted several) [] listed_row (Some v) ≡ [])) }
     ensures below { IfOk result (λ numbers. AreBelow (length shapes.new) numbers.items) }
     ensures meant { IfOk result
-        (λ numbers. IsReading several shapes.new (Some numbers.items)
-        (reading_of several (trees_there (Some (view value))))) }
-    ensures refused { IfErr result
-        (TellsOneOf (field_complaints (unlisted several) [] listed_row (Some (view value)))) }
+        (λ numbers. Gives (IsValue (view tree.now)) (λ v. trees_there (Some v))
+        (λ trees. IsReading several shapes.new (Some numbers.items)
+        (reading_of several trees))) }
+    ensures refused { IfErr result (λ fault. For (IsValue (view tree.now))
+        (λ v. TellsOneOf (field_complaints (unlisted several) [] listed_row (Some v)) fault)) }
 {
-    match value {
-        Value::Array(elements) => read_elements(alloc, several, shapes, elements),
-        Value::Null | Value::Bool(_) | Value::Number(_) | Value::String(_) | Value::Object(_) => {
+    match tree {
+        Tree::List(elements) => read_elements(alloc, several, shapes, elements),
+        Tree::Null | Tree::Bool(_) | Tree::Int(_) | Tree::Text(_) | Tree::Object(_) => {
             Err(ReadFault::record(alloc, RecordFault::WrongKind, "", "shapes"))
         }
     }
@@ -69,15 +71,15 @@ fn read_elements(
     alloc: Global,
     several: bool,
     shapes: &mut Shapes,
-    elements: Vec<Value>,
+    elements: &[Tree],
 ) -> Result<Vec<usize>, ReadFault>
-    requires { ElementsAreWhole (items_view elements.items) }
-    ensures right { OnOk result (listing_complaints several [] (items_view elements.items) ≡ []) }
+    ensures right { OnOk result (For (AreItems (elements_view elements.now))
+        (λ vs. listing_complaints several [] vs ≡ [])) }
     ensures below { IfOk result (λ numbers. AreBelow (length shapes.new) numbers.items) }
-    ensures meant { IfOk result (λ numbers. AreMeant several shapes.new numbers.items
-        (listed_after [] (items_view elements.items))) }
-    ensures refused { IfErr result
-        (TellsOneOf (listing_complaints several [] (items_view elements.items))) }
+    ensures meant { IfOk result (λ numbers. Gives (AreItems (elements_view elements.now))
+        (listed_after []) (AreMeant several shapes.new numbers.items)) }
+    ensures refused { IfErr result (λ fault. For (AreItems (elements_view elements.now))
+        (λ vs. TellsOneOf (listing_complaints several [] vs) fault)) }
 {
     let mut numbers = Vec::with_capacity(alloc, elements.len())?;
     for element in elements {

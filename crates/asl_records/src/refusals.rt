@@ -58,11 +58,9 @@ pub struct RecordRefusal {
     pub field: String,
 }
 
-/// Why a JSON value is read as no declared shapes or no certificate.
+/// Why a tree is read as no declared shapes or no certificate.
 #[derive(Debug, Drop)]
 pub enum ReadFault {
-    /// A number in it isn't whole, or is out of range.
-    NotWhole,
     /// A rule of records is broken.
     Record(RecordRefusal),
     /// There was no memory to read it. No other fault says so.

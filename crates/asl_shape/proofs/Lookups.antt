@@ -11,19 +11,17 @@ use Rattle.asl_model.specs.Tree.{field_named}
 use Rattle.asl_model.specs.Shape as model
 use Rattle.asl_model.specs.Shape.{mentions}
 use Rattle.asl_model.specs.ShapeOrder.{mention_of}
-use Rattle.asl_tree.proofs.Values as values
 pub use Rattle.asl_tree.proofs.Values.{same_name, picked}
 use Rattle.asl_tree.specs.declared.Tree.{Tree}
 use Rattle.asl_tree.specs.View as trees
 use Rattle.asl_shape.specs.declared.shape.Field.{Field}
-use Rattle.asl_shape.specs.Spelled as spelled
+use Rattle.asl_shape.specs.Spelled.{tree_there, member_named}
 use Rattle.asl_shape.specs.View.{view, fields_view, mentions_of}
-use Rattle.serde_json.specs.declared.value.Value.{Value}
 
-pub field_named_lookup : (k : String Global) (es : List (String Global × Tree)) → field_named (string_bytes k) (trees.entries_view es) ≡ option_map trees.view (lookup (is_at (string_cmp k)) es)
-field_named_lookup k [] = refl
-field_named_lookup k (e ∷ es) =
-    rw (same_name (string_bytes k) (string_bytes e.0), field_named_lookup k es) (picked trees.view e.1 _ _)
+pub field_named_lookup : (q : List ℕ) (es : List (String Global × Tree)) → field_named q (trees.entries_view es) ≡ option_map trees.view (lookup (is_at (λ k. slice_cmp nat_cmp q (string_bytes k))) es)
+field_named_lookup q [] = refl
+field_named_lookup q (e ∷ es) =
+    rw (same_name q (string_bytes e.0), field_named_lookup q es) (picked trees.view e.1 _ _)
 
 found : {A : Type 0} (x : A) (b : Bool) (s : Option A) → b || is_some s ≡ is_some (cond b (Some x) s)
 found x true s = refl
@@ -43,10 +41,10 @@ mention_of_lookup k [] = refl
 mention_of_lookup k (m ∷ ms) =
     rw (same_name (string_bytes k) (string_bytes m.0), mention_of_lookup k ms) (picked (λ (m : Field). (m.needed, view m.shape)) m.1 _ _)
 
-there : (o : Option (Bor Value)) → spelled.value_there o ≡ option_map spelled.view (option_copied o)
+there : (o : Option (Bor Tree)) → tree_there o ≡ option_map trees.view (option_copied o)
 there None = refl
-there (Some v) = refl
+there (Some t) = refl
 
--- what a look-up in a map gives is what its members have
-pub member_named_lookup : (q : List ℕ) (es : List (String Global × Value)) (o : Option (Bor Value)) → option_copied o ≡ lookup (is_at (λ k. slice_cmp nat_cmp q (string_bytes k))) es → spelled.value_there o ≡ spelled.member_named q es
-member_named_lookup q es o is = there o ∙ ap (option_map spelled.view) is ∙ sym (values.field_named_lookup q es)
+-- what a look-up in a map gives is what its fields have
+pub member_named_lookup : (q : List ℕ) (es : List (String Global × Tree)) (o : Option (Bor Tree)) → option_copied o ≡ lookup (is_at (λ k. slice_cmp nat_cmp q (string_bytes k))) es → tree_there o ≡ member_named q es
+member_named_lookup q es o is = there o ∙ ap (option_map trees.view) is ∙ sym (field_named_lookup q es)

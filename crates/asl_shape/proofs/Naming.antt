@@ -13,7 +13,7 @@ use Rattle.asl_shape.specs.LevelView.{texts}
 use Rattle.asl_shape.specs.Refusal.{Tells}
 use Rattle.asl_shape.specs.Spelled as trees
 use Rattle.asl_shape.specs.declared.ShapeRefusal.{ShapeRefusal}
-use Rattle.serde_json.specs.declared.value.Value.{Value}
+use Rattle.asl_tree.specs.declared.Tree.{Tree}
 use Rattle.asl_shape.proofs.Lookups.{same_name}
 use Rattle.asl_shape.proofs.Requiring.{are_new, new_next}
 use Rattle.asl_shape.proofs.Telling.{told_same, told_second}
@@ -22,7 +22,7 @@ use Rattle.asl_shape.proofs.Telling.{told_same, told_second}
 abbrev pub has : List (Bor (List ℕ)) → List ℕ → Bool
 has keys n = list_any (λ k. is_eq (slice_cmp nat_cmp n k.now)) keys
 
-shown_split : (left rest : List Value) (item : Value) (name : List ℕ) → left ≡ item ∷ rest → trees.view item ≡ json.Text name → trees.elements_view left ≡ json.AndTree (json.Text name) (trees.elements_view rest)
+shown_split : (left rest : List Tree) (item : Tree) (name : List ℕ) → left ≡ item ∷ rest → trees.view item ≡ json.Text name → trees.elements_view left ≡ json.AndTree (json.Text name) (trees.elements_view rest)
 shown_split left rest item name split is = ap trees.elements_view split ∙ ap (λ t. json.AndTree t (trees.elements_view rest)) is
 
 -- the second texts have the first and that one
@@ -37,7 +37,7 @@ pub was_new : (added taken : Bool) → added ≡ not taken → added ≡ true �
 was_new added true e is = absurd (let wrong : false ≡ true = sym e ∙ is in cc)
 was_new added false e is = refl
 
-pub texts_step : (left rest : List Value) (item : Value) (name : List ℕ) → left ≡ item ∷ rest → trees.view item ≡ json.Text name → are_texts (trees.elements_view left) ≡ are_texts (trees.elements_view rest)
+pub texts_step : (left rest : List Tree) (item : Tree) (name : List ℕ) → left ≡ item ∷ rest → trees.view item ≡ json.Text name → are_texts (trees.elements_view left) ≡ are_texts (trees.elements_view rest)
 texts_step left rest item name split is = ap are_texts (shown_split left rest item name split is)
 
 also-has : (n m : List ℕ) (b : Bool) (old : Bool) → bytes_eq n m ≡ b → cond b true old ≡ (b || old)
@@ -53,11 +53,11 @@ has_next old new k updates m =
     symmetric : bytes_eq m k.now ≡ bytes_eq k.now m
     symmetric = nat_list_eq_equiv.symm m k.now
 
-pub new_step : (left rest : List Value) (item : Value) (name : List ℕ) (old new : List (Bor (List ℕ))) → left ≡ item ∷ rest → trees.view item ≡ json.Text name → has old name ≡ false → IsWith old new name → are_new (texts_among (trees.elements_view left)) (has old) ≡ are_new (texts_among (trees.elements_view rest)) (has new)
+pub new_step : (left rest : List Tree) (item : Tree) (name : List ℕ) (old new : List (Bor (List ℕ))) → left ≡ item ∷ rest → trees.view item ≡ json.Text name → has old name ≡ false → IsWith old new name → are_new (texts_among (trees.elements_view left)) (has old) ≡ are_new (texts_among (trees.elements_view rest)) (has new)
 new_step left rest item name old new split is fresh taken =
     ap (λ ts. are_new (texts_among ts) (has old)) (shown_split left rest item name split is) ∙ new_next name (texts_among (trees.elements_view rest)) (has old) (has new) fresh taken
 
-pub listed_step : (left rest : List Value) (item : Value) (n : Bor (String Global)) (names new : List (Bor (String Global))) (all : List (List ℕ)) → left ≡ item ∷ rest → trees.view item ≡ json.Text (string_bytes n.now) → new ≡ names ++ n ∷ [] → all ≡ texts names ++ texts_among (trees.elements_view left) → all ≡ texts new ++ texts_among (trees.elements_view rest)
+pub listed_step : (left rest : List Tree) (item : Tree) (n : Bor (String Global)) (names new : List (Bor (String Global))) (all : List (List ℕ)) → left ≡ item ∷ rest → trees.view item ≡ json.Text (string_bytes n.now) → new ≡ names ++ n ∷ [] → all ≡ texts names ++ texts_among (trees.elements_view left) → all ≡ texts new ++ texts_among (trees.elements_view rest)
 listed_step left rest item n names new all split is pushed so_far =
     let ns = texts_among (trees.elements_view rest) in
     so_far
@@ -66,7 +66,7 @@ listed_step left rest item n names new all split is pushed so_far =
     ∙ ap (λ ms. ms ++ ns) (sym (map-append (λ (x : Bor (String Global)). string_bytes x.now) names (n ∷ [])) ∙ ap texts (sym pushed))
 
 -- so is a name that is taken
-pub repeated_told : (e : ShapeRefusal) (all left rest : List Value) (item : Value) (name : List ℕ) (keys : List (Bor (List ℕ))) → are_distinct (texts_among (trees.elements_view all)) ≡ are_new (texts_among (trees.elements_view left)) (has keys) → left ≡ item ∷ rest → trees.view item ≡ json.Text name → has keys name ≡ true → Tells e (NotAShape ∷ []) → Tells e (unless (are_texts (trees.elements_view all) && are_distinct (texts_among (trees.elements_view all))) NotAShape)
+pub repeated_told : (e : ShapeRefusal) (all left rest : List Tree) (item : Tree) (name : List ℕ) (keys : List (Bor (List ℕ))) → are_distinct (texts_among (trees.elements_view all)) ≡ are_new (texts_among (trees.elements_view left)) (has keys) → left ≡ item ∷ rest → trees.view item ≡ json.Text name → has keys name ≡ true → Tells e (NotAShape ∷ []) → Tells e (unless (are_texts (trees.elements_view all) && are_distinct (texts_among (trees.elements_view all))) NotAShape)
 repeated_told e all left rest item name keys so_far split is taken told =
     let ns = texts_among (trees.elements_view rest) in
     let twice : are_distinct (texts_among (trees.elements_view all)) ≡ false = so_far ∙ ap (λ ts. are_new (texts_among ts) (has keys)) (shown_split left rest item name split is) ∙ ap (λ b. not b && (not (is_among name ns) && are_new ns (has keys))) taken in

@@ -4,7 +4,7 @@ use Rattle.asl_model.specs.Tree.{Tree, Null, Boolean, Integer, Text, Array, Obje
 use Rattle.asl_model.specs.ShapeSpelling.{is_among, types_in}
 use Rattle.asl_shape.specs.Level.{Level, Whole, OfTypes, ListLevel, ObjectLevel, level_of, typed_level, only_if, array_level, object_level, elements_in, fields_in, SpelledOver}
 use Rattle.asl_shape.specs.Spelled as trees
-use Rattle.serde_json.specs.declared.value.Value.{Value}
+use Rattle.asl_tree.specs.declared.Tree.{Tree as CodeTree}
 
 abbrev mutual
   -- of a tree
@@ -96,22 +96,22 @@ within (Object fs) = omega (arith, typed_within (types_in (field_named (codes "t
 pub smaller : (several : Bool) (t : Tree) (level : Level) → SpelledOver several t level → level_size level < size t
 smaller several t level h = subst (λ l. level_size l < size t) h.same (within t)
 
-drop_within : (i : ℕ) (vs : List Value) → elements_size (trees.elements_view (drop i vs)) ≤ elements_size (trees.elements_view vs)
+drop_within : (i : ℕ) (vs : List CodeTree) → elements_size (trees.elements_view (drop i vs)) ≤ elements_size (trees.elements_view vs)
 drop_within zero vs = omega arith
 drop_within (suc i) [] = omega arith
 drop_within (suc i) (v ∷ vs) = omega (arith, drop_within i vs)
 
 -- an element is smaller than all together
-pub element_smaller : (i : ℕ) (vs left : List Value) (v : Value) → drop i vs ≡ v ∷ left → size (trees.view v) < elements_size (trees.elements_view vs)
+pub element_smaller : (i : ℕ) (vs left : List CodeTree) (v : CodeTree) → drop i vs ≡ v ∷ left → size (trees.view v) < elements_size (trees.elements_view vs)
 element_smaller i vs left v split =
     let here : elements_size (trees.elements_view (v ∷ left)) ≤ elements_size (trees.elements_view vs) = subst (λ us. elements_size (trees.elements_view us) ≤ elements_size (trees.elements_view vs)) split (drop_within i vs) in
     omega (arith, here)
 
 -- a member's value is smaller than all together
-member_within : (done left : List (String Global × Value)) (e : String Global × Value) → size (trees.view e.1) < fields_size (trees.entries_view (done ++ e ∷ left))
+member_within : (done left : List (String Global × CodeTree)) (e : String Global × CodeTree) → size (trees.view e.1) < fields_size (trees.entries_view (done ++ e ∷ left))
 member_within [] left e = omega arith
 member_within (m ∷ done) left e = omega (arith, member_within done left e)
 
-pub member_smaller : (all done now left : List (String Global × Value)) (e : String Global × Value) → all ≡ done ++ now → now ≡ e ∷ left → size (trees.view e.1) < fields_size (trees.entries_view all)
+pub member_smaller : (all done now left : List (String Global × CodeTree)) (e : String Global × CodeTree) → all ≡ done ++ now → now ≡ e ∷ left → size (trees.view e.1) < fields_size (trees.entries_view all)
 member_smaller all done now left e split next =
     subst (λ ms. size (trees.view e.1) < fields_size (trees.entries_view ms)) (sym (split ∙ ap (λ ms. done ++ ms) next)) (member_within done left e)

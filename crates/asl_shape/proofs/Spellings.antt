@@ -14,7 +14,7 @@ use Rattle.asl_model.specs.Shape as model
 use Rattle.asl_model.specs.ShapeSpelling.{is_type_list, are_texts, are_types, are_distinct, texts_among, shape_of, element_shapes, field_shapes, shape_faults, field_faults, element_faults}
 use Rattle.asl_model.specs.Tree as json
 use Rattle.asl_shape.specs.Spelled as trees
-use Rattle.serde_json.specs.declared.value.Value.{Value}
+use Rattle.asl_tree.specs.declared.Tree.{Tree}
 use Rattle.asl_shape.specs.declared.ShapeRefusal.{ShapeRefusal}
 use Rattle.asl_shape.specs.declared.shape.Shape.{Shape}
 use Rattle.asl_shape.specs.declared.shape.Field.{Field}
@@ -24,20 +24,20 @@ use Rattle.asl_shape.proofs.Telling.{told_same, told_left}
 
 -- ---- elements
 
-elements_shown : (ts : List Value) → shapes_of (map (λ t. shape_of (trees.view t)) ts) ≡ element_shapes (trees.elements_view ts)
+elements_shown : (ts : List Tree) → shapes_of (map (λ t. shape_of (trees.view t)) ts) ≡ element_shapes (trees.elements_view ts)
 elements_shown [] = refl
 elements_shown (t ∷ ts) = ap (model.AndShape (shape_of (trees.view t))) (elements_shown ts)
 
-pub shapes_read : (ss : List Shape) (ts : List Value) → map view ss ≡ map (λ t. shape_of (trees.view t)) ts → shapes_view ss ≡ element_shapes (trees.elements_view ts)
+pub shapes_read : (ss : List Shape) (ts : List Tree) → map view ss ≡ map (λ t. shape_of (trees.view t)) ts → shapes_view ss ≡ element_shapes (trees.elements_view ts)
 shapes_read ss ts e = ap shapes_of e ∙ elements_shown ts
 
 -- an element that is read goes behind those before it
-pub pushed_read : (ss new : List Shape) (front next : List Value) (s : Shape) (item : Value) → map view ss ≡ map (λ t. shape_of (trees.view t)) front → shape_of (trees.view item) ≡ view s → next ≡ front ++ item ∷ [] → new ≡ ss ++ s ∷ [] → map view new ≡ map (λ t. shape_of (trees.view t)) next
+pub pushed_read : (ss new : List Shape) (front next : List Tree) (s : Shape) (item : Tree) → map view ss ≡ map (λ t. shape_of (trees.view t)) front → shape_of (trees.view item) ≡ view s → next ≡ front ++ item ∷ [] → new ≡ ss ++ s ∷ [] → map view new ≡ map (λ t. shape_of (trees.view t)) next
 pushed_read ss new front next s item so_far is more pushed =
     let here : (map view ss ++ view s ∷ []) ≡ (map (λ t. shape_of (trees.view t)) front ++ shape_of (trees.view item) ∷ []) = rw (so_far, is) refl in
-    ap (map view) pushed ∙ map-append view ss (s ∷ []) ∙ here ∙ sym (ap (map (λ t. shape_of (trees.view t))) more ∙ map-append (λ (t : Value). shape_of (trees.view t)) front (item ∷ []))
+    ap (map view) pushed ∙ map-append view ss (s ∷ []) ∙ here ∙ sym (ap (map (λ t. shape_of (trees.view t))) more ∙ map-append (λ (t : Tree). shape_of (trees.view t)) front (item ∷ []))
 
-pub elements_counted : (ts : List Value) → length ts ≡ json.count (trees.elements_view ts)
+pub elements_counted : (ts : List Tree) → length ts ≡ json.count (trees.elements_view ts)
 elements_counted [] = refl
 elements_counted (t ∷ ts) = ap suc (elements_counted ts)
 
@@ -46,7 +46,7 @@ and_assoc true b c = refl
 and_assoc false b c = refl
 
 -- the elements are a list of types
-pub type_list : (es : List Value) → is_type_list (trees.elements_view es) ≡ (not (nat_eq (length es) 0) && ((are_texts (trees.elements_view es) && are_types (texts_among (trees.elements_view es))) && are_distinct (texts_among (trees.elements_view es))))
+pub type_list : (es : List Tree) → is_type_list (trees.elements_view es) ≡ (not (nat_eq (length es) 0) && ((are_texts (trees.elements_view es) && are_types (texts_among (trees.elements_view es))) && are_distinct (texts_among (trees.elements_view es))))
 type_list [] = refl
 type_list (e ∷ es) =
     let some : nat_eq (suc (length es)) 0 ≡ false = grind arith in
@@ -56,7 +56,7 @@ type_list (e ∷ es) =
 -- ---- fields
 
 abbrev Entry : Type 0
-Entry = String Global × Value
+Entry = String Global × Tree
 
 abbrev pub Mention : Type 0
 Mention = String Global × Field
@@ -98,10 +98,10 @@ member_read done e more fs k f sorted so_far named needed shape =
 pub faults_step : (several : Bool) (e : Entry) (left now : List Entry) → now ≡ e ∷ left → shape_faults several (trees.view e.1) ≡ [] → field_faults several (trees.entries_view now) ≡ field_faults several (trees.entries_view left)
 faults_step several e left now split right = ap (λ es. field_faults several (trees.entries_view es)) split ∙ ap (λ xs. xs ++ field_faults several (trees.entries_view left)) right
 
-pub elements_step : (several : Bool) (left rest : List Value) (t : Value) → left ≡ t ∷ rest → shape_faults several (trees.view t) ≡ [] → element_faults several (trees.elements_view left) ≡ element_faults several (trees.elements_view rest)
+pub elements_step : (several : Bool) (left rest : List Tree) (t : Tree) → left ≡ t ∷ rest → shape_faults several (trees.view t) ≡ [] → element_faults several (trees.elements_view left) ≡ element_faults several (trees.elements_view rest)
 elements_step several left rest t split right = ap (λ ts. element_faults several (trees.elements_view ts)) split ∙ ap (λ xs. xs ++ element_faults several (trees.elements_view rest)) right
 
-pub element_told : (several : Bool) (e : ShapeRefusal) (all left rest : List Value) (t : Value) → element_faults several (trees.elements_view all) ≡ element_faults several (trees.elements_view left) → left ≡ t ∷ rest → Tells e (shape_faults several (trees.view t)) → Tells e (element_faults several (trees.elements_view all))
+pub element_told : (several : Bool) (e : ShapeRefusal) (all left rest : List Tree) (t : Tree) → element_faults several (trees.elements_view all) ≡ element_faults several (trees.elements_view left) → left ≡ t ∷ rest → Tells e (shape_faults several (trees.view t)) → Tells e (element_faults several (trees.elements_view all))
 element_told several e all left rest t so_far split told =
     told_same e _ _ (told_left e (shape_faults several (trees.view t)) (element_faults several (trees.elements_view rest)) told) (sym (so_far ∙ ap (λ ts. element_faults several (trees.elements_view ts)) split))
 

@@ -12,12 +12,12 @@ use Rattle.asl_shape.specs.Types.{faults_when}
 use Rattle.asl_shape.specs.LevelView.{level_view}
 use Rattle.asl_shape.specs.Refusal.{Tells, fault_named}
 use Rattle.asl_shape.specs.Spelled as trees
-use Rattle.asl_shape.specs.Spelled.{spelled, elements_view, entries_view}
-use Rattle.serde_json.specs.declared.value.Value as value
-use Rattle.serde_json.proofs.Views.{view-Object}
+use Rattle.asl_shape.specs.Spelled.{elements_view, entries_view}
+use Rattle.asl_tree.specs.declared.Tree as tree
+use Rattle.asl_tree.proofs.Wholes.{view_object}
 use Rattle.std.specs.declared.alloc.Global.{Global}
 use Rattle.std.specs.BTreeMap.{BTreeMap}
-use Rattle.serde_json.specs.declared.value.Value.{Value}
+use Rattle.asl_tree.specs.declared.Tree.{Tree as CodeTree}
 use Rattle.asl_shape.proofs.Spellings.{elements_counted}
 use Rattle.asl_shape.proofs.Telling.{told_left, told_right, told_same}
 use Rattle.asl_shape.specs.declared.ShapeRefusal.{ShapeRefusal}
@@ -293,7 +293,7 @@ type_told several e fs t is told =
 -- ---- the level of lists
 
 -- the elements are as many as `minItems` is checked against
-pub as_many : (o : Option Tree) (vs : List Value) → elements_view vs ≡ elements_in o → length vs ≡ element_count o
+pub as_many : (o : Option Tree) (vs : List CodeTree) → elements_view vs ≡ elements_in o → length vs ≡ element_count o
 as_many o vs is = elements_counted vs ∙ ap count is ∙ sym (counted o)
 
 pub count_told : (e : ShapeRefusal) (fs : Fields) (n : ℕ) → n ≡ element_count (field_named (codes "prefixItems") fs) → Tells e (min_items_faults (field_named (codes "minItems") fs) n) → Tells e (array_level_faults fs)
@@ -310,9 +310,6 @@ list_right fs n is list counts =
 pub object_right : (fs : Fields) → object_faults (field_named (codes "properties") fs) ≡ [] → required_faults (field_named (codes "required") fs) ≡ [] → extra_faults (field_named (codes "additionalProperties") fs) ≡ [] → object_level_faults fs ≡ []
 object_right fs properties required extra = both_none _ _ properties (both_none _ _ required extra)
 
-view_members : (keywords : BTreeMap (String Global) Value) → trees.view (value.Object keywords) ≡ Object (entries_view keywords.entries)
-view_members keywords = ap spelled (view-Object keywords)
-
-pub object_told : (several : Bool) (keywords : BTreeMap (String Global) Value) (r : Result code.Level ShapeRefusal) → IfErr r (λ e. Tells e (level_faults several (Object (entries_view keywords.entries)))) → IfErr r (λ e. Tells e (shape_faults several (trees.view (value.Object keywords))))
+pub object_told : (several : Bool) (keywords : BTreeMap (String Global) CodeTree) (r : Result code.Level ShapeRefusal) → IfErr r (λ e. Tells e (level_faults several (Object (entries_view keywords.entries)))) → IfErr r (λ e. Tells e (shape_faults several (trees.view (tree.Object keywords))))
 object_told several keywords (Ok level) told = tt
-object_told several keywords (Err e) told = rw (view_members keywords) (level_told several e (Object (entries_view keywords.entries)) told)
+object_told several keywords (Err e) told = rw (view_object keywords) (level_told several e (Object (entries_view keywords.entries)) told)

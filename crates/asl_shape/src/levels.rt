@@ -8,21 +8,19 @@ ghost use Rattle.asl_shape.specs.LevelView.{level_view, list_view, object_view, 
 ghost use Rattle.asl_shape.specs.Refusal.{Tells};
 ghost use Rattle.asl_shape.specs.Types.{keywords_for, faults_when, TextIn};
 ghost use Rattle.asl_shape.specs.Spelled as trees;
-ghost use Rattle.asl_shape.specs.Spelled.{spelled, entries_view, member_named, value_there, entries_there};
-ghost use Rattle.serde_json.specs.Data.{number};
-ghost use Rattle.serde_json.specs.View.{number_view};
+ghost use Rattle.asl_shape.specs.Spelled.{entries_view, member_named, tree_there, fields_there};
 ghost use Rattle.std.specs.List.{Contains};
 ghost use Rattle.std.specs.Ordering.{int_eq};
 ghost use Rattle.asl_shape.specs.declared.ShapeRefusal.{ShapeRefusal};
 ghost use Rattle.std.specs.Prelude.{◌≡◌, ◌&&◌, [], IsTrue, not, map, codes, length, string_bytes, IfOk, IfErr, Some, option_map, pos, true, false};
 
 use crate::ShapeRefusal;
-use serde_json::{Map, Number, Value};
+use asl_tree::Tree;
 use std::alloc::Global;
-use std::collections::BTreeSet;
+use std::collections::{BTreeMap, BTreeSet};
 use std::slice;
 
-/// One level of the spelling of a shape, with the values in it that spell the shapes inside.
+/// One level of the spelling of a shape, with the trees in it that spell the shapes inside.
 #[derive(Drop)]
 pub enum Level<'v> {
     /// `Any`, spelled whole.
@@ -50,16 +48,16 @@ pub enum Level<'v> {
 #[derive(Clone, Copy)]
 pub struct ListLevel<'v> {
     /// What stands in `prefixItems`, nothing where it is absent.
-    pub first: &'v [Value],
+    pub first: &'v [Tree],
     /// What stands in `items`.
-    pub rest: Option<&'v Value>,
+    pub rest: Option<&'v Tree>,
 }
 
 /// What a level says of objects.
 #[derive(Drop)]
 pub struct ObjectLevel<'v> {
     /// What stands in `properties`.
-    pub properties: Option<&'v Map<String, Value>>,
+    pub properties: Option<&'v BTreeMap<String, Tree>>,
     /// The names in `required`, in their order, no two alike.
     pub required: Vec<&'v String>,
     /// Whether other fields may be there, as `additionalProperties` says.
@@ -134,26 +132,26 @@ const LIST_AND_OBJECT_KEYWORDS: [&str; 14] = [
     "examples",
 ];
 
-/// The level that a JSON value says, as the spelling of a shape; `several` says whether `type` may be a list of types.
+/// The level that a tree says, as the spelling of a shape; `several` says whether `type` may be a list of types.
 ///
 /// All that the level says itself is checked: that `type` is a type or, where it may be, a list of one or more types, none
 /// twice; that each keyword belongs to one of the types, that `minItems` is the number of the values in `prefixItems`,
 /// that `required` is a list of distinct texts, and that the other keywords are of their kinds. The values that spell the
 /// shapes inside aren't looked at.
 ///
-/// Where several refusals stand in a value, the answer is one of them.
-pub fn read_level(alloc: Global, value: &Value, several: bool) -> Result<Level<'_>, ShapeRefusal>
+/// Where several refusals stand in a tree, the answer is one of them.
+pub fn read_level(alloc: Global, tree: &Tree, several: bool) -> Result<Level<'_>, ShapeRefusal>
     ensures level { IfOk result
-        (λ level. SpelledOver several (trees.view value.now) (level_view level)) }
-    ensures refused { IfErr result (λ e. Tells e (level_faults several (trees.view value.now))) }
+        (λ level. SpelledOver several (trees.view tree.now) (level_view level)) }
+    ensures refused { IfErr result (λ e. Tells e (level_faults several (trees.view tree.now))) }
     ensures faulty { IfErr result
-        (λ e. Tells e (model.shape_faults several (trees.view value.now))) }
+        (λ e. Tells e (model.shape_faults several (trees.view tree.now))) }
 {
-    match value {
-        Value::Bool(true) => Ok(Level::Any),
-        Value::Bool(false) => Ok(Level::Never),
-        Value::Object(keywords) => keyword_level(alloc, keywords, several),
-        Value::Null | Value::Number(_) | Value::String(_) | Value::Array(_) => {
+    match tree {
+        Tree::Bool(true) => Ok(Level::Any),
+        Tree::Bool(false) => Ok(Level::Never),
+        Tree::Object(keywords) => keyword_level(alloc, keywords, several),
+        Tree::Null | Tree::Int(_) | Tree::Text(_) | Tree::List(_) => {
             Err(ShapeRefusal::NotAShape)
         }
     }
@@ -162,7 +160,7 @@ pub fn read_level(alloc: Global, value: &Value, several: bool) -> Result<Level<'
 // The level that an object of keywords says.
 fn keyword_level(
     alloc: Global,
-    keywords: &Map<String, Value>,
+    keywords: &BTreeMap<String, Tree>,
     several: bool,
 ) -> Result<Level<'_>, ShapeRefusal>
     ensures level { IfOk result
@@ -173,15 +171,15 @@ fn keyword_level(
 {
     match member(keywords, "type") {
         None => untyped_level(keywords),
-        Some(value) => {
-            let names = type_names(value, several)?;
+        Some(tree) => {
+            let names = type_names(tree, several)?;
             typed_level(alloc, keywords, names)
         }
     }
 }
 
 // The level of an object without `type`.
-fn untyped_level(keywords: &Map<String, Value>) -> Result<Level<'_>, ShapeRefusal>
+fn untyped_level(keywords: &BTreeMap<String, Tree>) -> Result<Level<'_>, ShapeRefusal>
     ensures level { IfOk result (λ level. level_view level ≡ levels.Whole shape.Any) }
     ensures right { IfOk result
         (λ _. model.foreign_faults model.BadType model.annotations
@@ -198,30 +196,30 @@ fn untyped_level(keywords: &Map<String, Value>) -> Result<Level<'_>, ShapeRefusa
 }
 
 // The values that name the types which `type` says.
-fn type_names(value: &Value, several: bool) -> Result<&[Value], ShapeRefusal>
-    ensures right { IfOk result (λ _. model.type_faults several (trees.view value.now) ≡ []) }
+fn type_names(tree: &Tree, several: bool) -> Result<&[Tree], ShapeRefusal>
+    ensures right { IfOk result (λ _. model.type_faults several (trees.view tree.now) ≡ []) }
     ensures names { IfOk result
         (λ names. model.texts_among (trees.elements_view names.now)
-        ≡ model.types_in (Some (trees.view value.now))) }
+        ≡ model.types_in (Some (trees.view tree.now))) }
     ensures refused { IfErr result
-        (λ e. Tells e (model.type_faults several (trees.view value.now))) }
+        (λ e. Tells e (model.type_faults several (trees.view tree.now))) }
 {
-    match value {
-        Value::String(word) => {
+    match tree {
+        Tree::Text(word) => {
             if is_among(word, &TYPES) {
-                Ok(slice::from_ref(value))
+                Ok(slice::from_ref(tree))
             } else {
                 Err(ShapeRefusal::BadType)
             }
         }
-        Value::Array(elements) => {
+        Tree::List(elements) => {
             if several && is_type_list(elements) {
                 Ok(elements)
             } else {
                 Err(ShapeRefusal::BadType)
             }
         }
-        Value::Null | Value::Bool(_) | Value::Number(_) | Value::Object(_) => {
+        Tree::Null | Tree::Bool(_) | Tree::Int(_) | Tree::Object(_) => {
             Err(ShapeRefusal::NotAShape)
         }
     }
@@ -229,14 +227,14 @@ fn type_names(value: &Value, several: bool) -> Result<&[Value], ShapeRefusal>
 
 // Whether the elements name types, one or more, none twice.
 #[tactic(auto, using(crate::proofs::Spellings::type_list))]
-fn is_type_list(elements: &[Value]) -> bool
+fn is_type_list(elements: &[Tree]) -> bool
     ensures { result ≡ model.is_type_list (trees.elements_view elements.now) }
 {
     !elements.is_empty() && are_distinct_types(elements)
 }
 
 // Whether each element is the name of a type, and none stands twice.
-fn are_distinct_types(elements: &[Value]) -> bool
+fn are_distinct_types(elements: &[Tree]) -> bool
     ensures { result
         ≡ ((model.are_texts (trees.elements_view elements.now)
         && model.are_types (model.texts_among (trees.elements_view elements.now)))
@@ -246,7 +244,7 @@ fn are_distinct_types(elements: &[Value]) -> bool
 }
 
 // Whether each element is the name of a type.
-fn are_types(elements: &[Value]) -> bool
+fn are_types(elements: &[Tree]) -> bool
     ensures { result
         ≡ (model.are_texts (trees.elements_view elements.now)
         && model.are_types (model.texts_among (trees.elements_view elements.now))) }
@@ -265,7 +263,7 @@ fn are_types(elements: &[Value]) -> bool
 }
 
 // Whether no text stands twice among the elements.
-fn are_distinct(elements: &[Value]) -> bool
+fn are_distinct(elements: &[Tree]) -> bool
     ensures { result ≡ model.are_distinct (model.texts_among (trees.elements_view elements.now)) }
 {
     for index in 0..elements.len() {
@@ -279,7 +277,7 @@ fn are_distinct(elements: &[Value]) -> bool
 }
 
 // Whether that text is among the elements.
-fn says(elements: &[Value], name: &str) -> bool
+fn says(elements: &[Tree], name: &str) -> bool
     ensures { result ≡ model.is_among name.now
         (model.texts_among (trees.elements_view elements.now)) }
 {
@@ -293,23 +291,21 @@ fn says(elements: &[Value], name: &str) -> bool
     false
 }
 
-// The text that a value is.
-fn text_in(value: &Value) -> Option<&str>
-    ensures { TextIn (trees.view value.now) result }
+// The text that a tree is.
+fn text_in(tree: &Tree) -> Option<&str>
+    ensures { TextIn (trees.view tree.now) result }
 {
-    match value {
-        Value::String(text) => Some(text),
-        Value::Null | Value::Bool(_) | Value::Number(_) | Value::Array(_) | Value::Object(_) => {
-            None
-        }
+    match tree {
+        Tree::Text(text) => Some(text),
+        Tree::Null | Tree::Bool(_) | Tree::Int(_) | Tree::List(_) | Tree::Object(_) => { None }
     }
 }
 
 // The level of these types.
 fn typed_level<'v>(
     alloc: Global,
-    keywords: &'v Map<String, Value>,
-    names: &[Value],
+    keywords: &'v BTreeMap<String, Tree>,
+    names: &[Tree],
 ) -> Result<Level<'v>, ShapeRefusal>
     ensures level { IfOk result
         (λ level. level_view level ≡ levels.kinds_level
@@ -360,7 +356,7 @@ fn known_keywords(array: bool, object: bool) -> &'static [&'static str]
 // The level of an array's keywords, where it is wanted.
 fn list_level_if(
     wanted: bool,
-    keywords: &Map<String, Value>,
+    keywords: &BTreeMap<String, Tree>,
 ) -> Result<Option<ListLevel<'_>>, ShapeRefusal>
     ensures level { IfOk result
         (λ l. option_map list_view l
@@ -383,7 +379,7 @@ fn list_level_if(
 fn object_level_if(
     alloc: Global,
     wanted: bool,
-    keywords: &Map<String, Value>,
+    keywords: &BTreeMap<String, Tree>,
 ) -> Result<Option<ObjectLevel<'_>>, ShapeRefusal>
     ensures level { IfOk result
         (λ l. option_map object_view l
@@ -404,14 +400,14 @@ fn object_level_if(
 
 // What stands under that name.
 #[tactic(auto, using(crate::proofs::Lookups::member_named_lookup))]
-fn member<'v>(keywords: &'v Map<String, Value>, name: &str) -> Option<&'v Value>
-    ensures { value_there result ≡ member_named name.now keywords.now.entries }
+fn member<'v>(keywords: &'v BTreeMap<String, Tree>, name: &str) -> Option<&'v Tree>
+    ensures { tree_there result ≡ member_named name.now keywords.now.entries }
 {
     keywords.get(name)
 }
 
 // Whether each of the keywords is one of those.
-fn all_among(keywords: &Map<String, Value>, known: &[&str]) -> bool
+fn all_among(keywords: &BTreeMap<String, Tree>, known: &[&str]) -> bool
     ensures known { IsTrue result
         → (fault : model.ShapeFault)
         → model.foreign_faults
@@ -449,7 +445,7 @@ fn is_among(keyword: &str, known: &[&str]) -> bool
 
 // The level of an array's keywords.
 #[tactic(auto, using(crate::proofs::Telling::told_left, crate::proofs::Telling::told_right))]
-fn list_level(keywords: &Map<String, Value>) -> Result<ListLevel<'_>, ShapeRefusal>
+fn list_level(keywords: &BTreeMap<String, Tree>) -> Result<ListLevel<'_>, ShapeRefusal>
     ensures level { IfOk result
         (λ l. list_view l ≡ levels.array_level (entries_view keywords.now.entries)) }
     ensures right { IfOk result
@@ -466,7 +462,7 @@ fn list_level(keywords: &Map<String, Value>) -> Result<ListLevel<'_>, ShapeRefus
 }
 
 // What stands in `prefixItems`.
-fn prefix_items(keywords: &Map<String, Value>) -> Result<&[Value], ShapeRefusal>
+fn prefix_items(keywords: &BTreeMap<String, Tree>) -> Result<&[Tree], ShapeRefusal>
     ensures right { IfOk result
         (λ _. list_faults (member_named (codes "prefixItems") keywords.now.entries) ≡ []) }
     ensures elements { IfOk result
@@ -477,26 +473,26 @@ fn prefix_items(keywords: &Map<String, Value>) -> Result<&[Value], ShapeRefusal>
 {
     match member(keywords, "prefixItems") {
         None => Ok(&[]),
-        Some(value) => elements(value),
+        Some(tree) => elements(tree),
     }
 }
 
-fn elements(value: &Value) -> Result<&[Value], ShapeRefusal>
-    ensures right { IfOk result (λ _. list_faults (Some (trees.view value.now)) ≡ []) }
+fn elements(tree: &Tree) -> Result<&[Tree], ShapeRefusal>
+    ensures right { IfOk result (λ _. list_faults (Some (trees.view tree.now)) ≡ []) }
     ensures elements { IfOk result
-        (λ es. trees.elements_view es.now ≡ elements_in (Some (trees.view value.now))) }
-    ensures refused { IfErr result (λ e. Tells e (list_faults (Some (trees.view value.now)))) }
+        (λ es. trees.elements_view es.now ≡ elements_in (Some (trees.view tree.now))) }
+    ensures refused { IfErr result (λ e. Tells e (list_faults (Some (trees.view tree.now)))) }
 {
-    match value {
-        Value::Array(elements) => Ok(elements),
-        Value::Null | Value::Bool(_) | Value::Number(_) | Value::String(_) | Value::Object(_) => {
+    match tree {
+        Tree::List(elements) => Ok(elements),
+        Tree::Null | Tree::Bool(_) | Tree::Int(_) | Tree::Text(_) | Tree::Object(_) => {
             Err(ShapeRefusal::NotAShape)
         }
     }
 }
 
 // Refuses a `minItems` other than the number of the shapes in `prefixItems`.
-fn check_min_items(keywords: &Map<String, Value>, count: usize) -> Result<(), ShapeRefusal>
+fn check_min_items(keywords: &BTreeMap<String, Tree>, count: usize) -> Result<(), ShapeRefusal>
     ensures right { IfOk result
         (λ _. model.min_items_faults
         (member_named (codes "minItems") keywords.now.entries) count ≡ []) }
@@ -506,39 +502,25 @@ fn check_min_items(keywords: &Map<String, Value>, count: usize) -> Result<(), Sh
 {
     match member(keywords, "minItems") {
         None => check_count(0, count),
-        Some(value) => check_stated(value, count),
+        Some(tree) => check_stated(tree, count),
     }
 }
 
-fn check_stated(value: &Value, count: usize) -> Result<(), ShapeRefusal>
+fn check_stated(tree: &Tree, count: usize) -> Result<(), ShapeRefusal>
     ensures right { IfOk result
-        (λ _. model.min_items_faults (Some (trees.view value.now)) count ≡ []) }
+        (λ _. model.min_items_faults (Some (trees.view tree.now)) count ≡ []) }
     ensures refused { IfErr result
-        (λ e. Tells e (model.min_items_faults (Some (trees.view value.now)) count)) }
+        (λ e. Tells e (model.min_items_faults (Some (trees.view tree.now)) count)) }
 {
-    match value {
-        Value::Number(stated) => check_number(stated, count),
-        Value::Null | Value::Bool(_) | Value::String(_) | Value::Array(_) | Value::Object(_) => {
+    match tree {
+        Tree::Int(stated) => check_count(*stated, count),
+        Tree::Null | Tree::Bool(_) | Tree::Text(_) | Tree::List(_) | Tree::Object(_) => {
             Err(ShapeRefusal::NotAShape)
         }
     }
 }
 
-fn check_number(stated: &Number, count: usize) -> Result<(), ShapeRefusal>
-    ensures right { IfOk result
-        (λ _. model.min_items_faults
-        (Some (spelled (number (number_view stated.now)))) count ≡ []) }
-    ensures refused { IfErr result
-        (λ e. Tells e (model.min_items_faults
-        (Some (spelled (number (number_view stated.now)))) count)) }
-{
-    match stated.as_i128() {
-        Some(stated) => check_count(stated, count),
-        None => Err(ShapeRefusal::NotAShape),
-    }
-}
-
-fn check_count(stated: i128, count: usize) -> Result<(), ShapeRefusal>
+fn check_count(stated: i64, count: usize) -> Result<(), ShapeRefusal>
     ensures right { IfOk result (λ _. int_eq stated (pos count) ≡ true) }
     ensures refused { IfErr result
         (λ e. e ≡ ShapeRefusal.MinItems × (int_eq stated (pos count) ≡ false)) }
@@ -554,7 +536,7 @@ fn check_count(stated: i128, count: usize) -> Result<(), ShapeRefusal>
 #[tactic(auto, using(crate::proofs::Telling::told_left, crate::proofs::Telling::told_right))]
 fn object_level(
     alloc: Global,
-    keywords: &Map<String, Value>,
+    keywords: &BTreeMap<String, Tree>,
 ) -> Result<ObjectLevel<'_>, ShapeRefusal>
     ensures level { IfOk result
         (λ l. object_view l ≡ levels.object_level (entries_view keywords.now.entries)) }
@@ -575,38 +557,38 @@ fn object_level(
 
 // What stands in `properties`.
 fn read_properties(
-    keywords: &Map<String, Value>,
-) -> Result<Option<&Map<String, Value>>, ShapeRefusal>
+    keywords: &BTreeMap<String, Tree>,
+) -> Result<Option<&BTreeMap<String, Tree>>, ShapeRefusal>
     ensures right { IfOk result
         (λ _. object_faults (member_named (codes "properties") keywords.now.entries) ≡ []) }
     ensures fields { IfOk result
-        (λ m. entries_there m ≡ fields_in
+        (λ m. fields_there m ≡ fields_in
         (member_named (codes "properties") keywords.now.entries)) }
     ensures refused { IfErr result
         (λ e. Tells e (object_faults (member_named (codes "properties") keywords.now.entries))) }
 {
     match member(keywords, "properties") {
         None => Ok(None),
-        Some(value) => Ok(Some(members(value)?)),
+        Some(tree) => Ok(Some(members(tree)?)),
     }
 }
 
-fn members(value: &Value) -> Result<&Map<String, Value>, ShapeRefusal>
-    ensures right { IfOk result (λ _. object_faults (Some (trees.view value.now)) ≡ []) }
+fn members(tree: &Tree) -> Result<&BTreeMap<String, Tree>, ShapeRefusal>
+    ensures right { IfOk result (λ _. object_faults (Some (trees.view tree.now)) ≡ []) }
     ensures fields { IfOk result
-        (λ m. entries_view m.now.entries ≡ fields_in (Some (trees.view value.now))) }
-    ensures refused { IfErr result (λ e. Tells e (object_faults (Some (trees.view value.now)))) }
+        (λ m. entries_view m.now.entries ≡ fields_in (Some (trees.view tree.now))) }
+    ensures refused { IfErr result (λ e. Tells e (object_faults (Some (trees.view tree.now)))) }
 {
-    match value {
-        Value::Object(members) => Ok(members),
-        Value::Null | Value::Bool(_) | Value::Number(_) | Value::String(_) | Value::Array(_) => {
+    match tree {
+        Tree::Object(members) => Ok(members),
+        Tree::Null | Tree::Bool(_) | Tree::Int(_) | Tree::Text(_) | Tree::List(_) => {
             Err(ShapeRefusal::NotAShape)
         }
     }
 }
 
 // Whether other fields may be there, as `additionalProperties` says.
-fn read_additional(keywords: &Map<String, Value>) -> Result<bool, ShapeRefusal>
+fn read_additional(keywords: &BTreeMap<String, Tree>) -> Result<bool, ShapeRefusal>
     ensures right { IfOk result
         (λ _. model.extra_faults
         (member_named (codes "additionalProperties") keywords.now.entries) ≡ []) }
@@ -619,26 +601,29 @@ fn read_additional(keywords: &Map<String, Value>) -> Result<bool, ShapeRefusal>
 {
     match member(keywords, "additionalProperties") {
         None => Ok(true),
-        Some(value) => truth_value(value),
+        Some(tree) => truth_value(tree),
     }
 }
 
-fn truth_value(value: &Value) -> Result<bool, ShapeRefusal>
-    ensures right { IfOk result (λ _. model.extra_faults (Some (trees.view value.now)) ≡ []) }
-    ensures extra { IfOk result (λ extra. extra ≡ model.extra_in (Some (trees.view value.now))) }
+fn truth_value(tree: &Tree) -> Result<bool, ShapeRefusal>
+    ensures right { IfOk result (λ _. model.extra_faults (Some (trees.view tree.now)) ≡ []) }
+    ensures extra { IfOk result (λ extra. extra ≡ model.extra_in (Some (trees.view tree.now))) }
     ensures refused { IfErr result
-        (λ e. Tells e (model.extra_faults (Some (trees.view value.now)))) }
+        (λ e. Tells e (model.extra_faults (Some (trees.view tree.now)))) }
 {
-    match value {
-        Value::Bool(extra) => Ok(*extra),
-        Value::Null | Value::Number(_) | Value::String(_) | Value::Array(_) | Value::Object(_) => {
+    match tree {
+        Tree::Bool(extra) => Ok(*extra),
+        Tree::Null | Tree::Int(_) | Tree::Text(_) | Tree::List(_) | Tree::Object(_) => {
             Err(ShapeRefusal::NotAShape)
         }
     }
 }
 
 // The names in `required`.
-fn read_required(alloc: Global, keywords: &Map<String, Value>) -> Result<Vec<&String>, ShapeRefusal>
+fn read_required(
+    alloc: Global,
+    keywords: &BTreeMap<String, Tree>,
+) -> Result<Vec<&String>, ShapeRefusal>
     ensures right { IfOk result
         (λ _. model.required_faults (member_named (codes "required") keywords.now.entries) ≡ []) }
     ensures names { IfOk result
@@ -650,26 +635,26 @@ fn read_required(alloc: Global, keywords: &Map<String, Value>) -> Result<Vec<&St
 {
     match member(keywords, "required") {
         None => Ok(Vec::new(alloc)),
-        Some(value) => listed_names(alloc, value),
+        Some(tree) => listed_names(alloc, tree),
     }
 }
 
-fn listed_names(alloc: Global, value: &Value) -> Result<Vec<&String>, ShapeRefusal>
-    ensures right { IfOk result (λ _. model.required_faults (Some (trees.view value.now)) ≡ []) }
+fn listed_names(alloc: Global, tree: &Tree) -> Result<Vec<&String>, ShapeRefusal>
+    ensures right { IfOk result (λ _. model.required_faults (Some (trees.view tree.now)) ≡ []) }
     ensures names { IfOk result
-        (λ names. texts names.items ≡ model.required_in (Some (trees.view value.now))) }
+        (λ names. texts names.items ≡ model.required_in (Some (trees.view tree.now))) }
     ensures refused { IfErr result
-        (λ e. Tells e (model.required_faults (Some (trees.view value.now)))) }
+        (λ e. Tells e (model.required_faults (Some (trees.view tree.now)))) }
 {
-    match value {
-        Value::Array(elements) => distinct_names(alloc, elements),
-        Value::Null | Value::Bool(_) | Value::Number(_) | Value::String(_) | Value::Object(_) => {
+    match tree {
+        Tree::List(elements) => distinct_names(alloc, elements),
+        Tree::Null | Tree::Bool(_) | Tree::Int(_) | Tree::Text(_) | Tree::Object(_) => {
             Err(ShapeRefusal::NotAShape)
         }
     }
 }
 
-fn distinct_names(alloc: Global, elements: &[Value]) -> Result<Vec<&String>, ShapeRefusal>
+fn distinct_names(alloc: Global, elements: &[Tree]) -> Result<Vec<&String>, ShapeRefusal>
     ensures right { IfOk result
         (λ _. (model.are_texts (trees.elements_view elements.now)
         && model.are_distinct (model.texts_among (trees.elements_view elements.now))) ≡ true) }
@@ -693,7 +678,7 @@ fn distinct_names(alloc: Global, elements: &[Value]) -> Result<Vec<&String>, Sha
 }
 
 // The name that an element of `required` says.
-fn name_in(element: &Value) -> Result<&String, ShapeRefusal>
+fn name_in(element: &Tree) -> Result<&String, ShapeRefusal>
     ensures named { IfOk result
         (λ name. trees.view element.now ≡ json.Text (string_bytes name.now)) }
     ensures refused { IfErr result
@@ -701,8 +686,8 @@ fn name_in(element: &Value) -> Result<&String, ShapeRefusal>
         (model.is_text_value (trees.view element.now)) model.NotAShape)) }
 {
     match element {
-        Value::String(name) => Ok(name),
-        Value::Null | Value::Bool(_) | Value::Number(_) | Value::Array(_) | Value::Object(_) => {
+        Tree::Text(name) => Ok(name),
+        Tree::Null | Tree::Bool(_) | Tree::Int(_) | Tree::List(_) | Tree::Object(_) => {
             Err(ShapeRefusal::NotAShape)
         }
     }

@@ -1,13 +1,12 @@
 //! Shapes of trees: reading and writing them, membership, comparing, copying and joining them.
 //!
 //! A [`Shape`] says which trees are meant (a subset of JSON Schema 2020-12). [`read`] makes one of the tree that spells
-//! it, [`read_value`] of the JSON value that this tree is, [`read_level`] tells one [`Level`] of such a value;
-//! [`read_v1`] and [`read_value_v1`] refuse lists of types. [`has`] tests a tree, [`inhabited`] whether there is one at
-//! all, [`sub`] whether one shape is inside another, [`same`] whether they are equal. [`example`] makes a tree of a
-//! shape, [`outside`] a tree of one shape that lacks another. [`copy`] makes an equal shape, [`join`] one that two are
-//! inside, [`write`] the tree that spells it. [`write_kinds`] writes one level of a shape, where the trees of its parts
-//! are given. [`take_apart`] tells what a shape takes of each kind of tree, [`of_kinds`] makes a shape of that, and
-//! [`proper`] tests whether the shapes of several kinds in one are as they should be.
+//! it, [`read_level`] tells one [`Level`] of such a tree; [`read_v1`] refuses lists of types. [`has`] tests a tree,
+//! [`inhabited`] whether there is one at all, [`sub`] whether one shape is inside another, [`same`] whether they are
+//! equal. [`example`] makes a tree of a shape, [`outside`] a tree of one shape that lacks another. [`copy`] makes an equal
+//! shape, [`join`] one that two are inside, [`write`] the tree that spells it. [`write_kinds`] writes one level of a shape,
+//! where the trees of its parts are given. [`take_apart`] tells what a shape takes of each kind of tree, [`of_kinds`]
+//! makes a shape of that, and [`proper`] tests whether the shapes of several kinds in one are as they should be.
 #![tactic(auto)]
 
 ghost use Rattle.std.specs.Prelude.{◌≡◌};
@@ -39,7 +38,7 @@ pub use kinds::{
 pub use levels::{Level, ListLevel, ObjectLevel, read_level};
 pub use membership::has;
 pub use properness::proper;
-pub use reading::{read, read_v1, read_value, read_value_v1};
+pub use reading::{read, read_v1};
 pub use shape::{Field, Shape};
 pub use writing::{Written, WrittenArrays, WrittenObjects, write, write_kinds};
 

@@ -1,6 +1,5 @@
 // Reading a shape from the tree that spells it.
 ghost use Rattle.asl_model.specs.ShapeSpelling as model;
-ghost use Rattle.asl_model.specs.Tree as json;
 ghost use Rattle.asl_shape.specs.Kinds.{owned_arrays_view, owned_objects_view};
 ghost use Rattle.asl_shape.specs.Level.{arrays_over, objects_over, list_inner_faults, object_inner_faults, rest_shape, rest_faults};
 ghost use Rattle.asl_shape.specs.LevelView.{list_view, object_view, texts};
@@ -8,9 +7,6 @@ ghost use Rattle.asl_shape.specs.Properness.{is_proper, are_proper, arrays_prope
 ghost use Rattle.asl_shape.specs.Refusal.{Tells, SpellsAs};
 ghost use Rattle.asl_shape.specs.View.{view, shapes_view, fields_view};
 ghost use Rattle.asl_shape.specs.Spelled as trees;
-ghost use Rattle.asl_tree.specs.View.{view as tree_view};
-ghost use Rattle.asl_model.specs.Json.{tree_of};
-ghost use Rattle.serde_json.specs.View.{view as value_view};
 ghost use Rattle.asl_shape.specs.declared.ShapeRefusal.{ShapeRefusal};
 ghost use Rattle.std.specs.Prelude.{◌≡◌, [], string_bytes, IfOk, IfErr, IsTrue, Some, Err, true, false, option_map};
 
@@ -19,7 +15,6 @@ use crate::kinds::{OwnedArrays, OwnedKinds, OwnedObjects, of_kinds};
 use crate::levels::{Level, ListLevel, ObjectLevel, read_level};
 use crate::shape::{Field, Shape};
 use asl_tree::{OutOfMemory, Tree};
-use serde_json::{Map, Value};
 use std::alloc::Global;
 use std::collections::BTreeMap;
 
@@ -35,72 +30,46 @@ use std::collections::BTreeMap;
 ///
 /// Where several refusals stand in a tree, the answer is one of them.
 pub fn read(alloc: Global, tree: &Tree) -> Result<Shape, ShapeRefusal>
-    ensures spelled { IfOk result (λ s. model.SpellsShape (tree_view tree.now) (view s)) }
+    ensures spelled { IfOk result (λ s. model.SpellsShape (trees.view tree.now) (view s)) }
     ensures proper { IfOk result (λ s. IsTrue (is_proper s)) }
     ensures not_a_shape { result ≡ Err ShapeRefusal.NotAShape
-        → model.HasShapeFault (tree_view tree.now) model.NotAShape }
+        → model.HasShapeFault (trees.view tree.now) model.NotAShape }
     ensures keyword { result ≡ Err ShapeRefusal.Keyword
-        → model.HasShapeFault (tree_view tree.now) model.Keyword }
+        → model.HasShapeFault (trees.view tree.now) model.Keyword }
     ensures bad_type { result ≡ Err ShapeRefusal.BadType
-        → model.HasShapeFault (tree_view tree.now) model.BadType }
+        → model.HasShapeFault (trees.view tree.now) model.BadType }
     ensures min_items { result ≡ Err ShapeRefusal.MinItems
-        → model.HasShapeFault (tree_view tree.now) model.MinItems }
+        → model.HasShapeFault (trees.view tree.now) model.MinItems }
 {
-    let value = asl_tree::to_value(alloc, tree)?;
-    read_spelling(alloc, &value, true)
+    read_spelling(alloc, tree, true)
 }
 
 /// The shape that a tree spells where lists of types may not stand, as in certificates of version 1: as [`read`] tells it,
 /// but that any such list is refused as `BadType`.
 pub fn read_v1(alloc: Global, tree: &Tree) -> Result<Shape, ShapeRefusal>
-    ensures spelled { IfOk result (λ s. model.SpellsShapeV1 (tree_view tree.now) (view s)) }
+    ensures spelled { IfOk result (λ s. model.SpellsShapeV1 (trees.view tree.now) (view s)) }
     ensures proper { IfOk result (λ s. IsTrue (is_proper s)) }
     ensures not_a_shape { result ≡ Err ShapeRefusal.NotAShape
-        → model.HasShapeFaultV1 (tree_view tree.now) model.NotAShape }
+        → model.HasShapeFaultV1 (trees.view tree.now) model.NotAShape }
     ensures keyword { result ≡ Err ShapeRefusal.Keyword
-        → model.HasShapeFaultV1 (tree_view tree.now) model.Keyword }
+        → model.HasShapeFaultV1 (trees.view tree.now) model.Keyword }
     ensures bad_type { result ≡ Err ShapeRefusal.BadType
-        → model.HasShapeFaultV1 (tree_view tree.now) model.BadType }
+        → model.HasShapeFaultV1 (trees.view tree.now) model.BadType }
     ensures min_items { result ≡ Err ShapeRefusal.MinItems
-        → model.HasShapeFaultV1 (tree_view tree.now) model.MinItems }
+        → model.HasShapeFaultV1 (trees.view tree.now) model.MinItems }
 {
-    let value = asl_tree::to_value(alloc, tree)?;
-    read_spelling(alloc, &value, false)
-}
-
-/// The shape that the tree spells that a JSON value is, as [`read`] tells it, with no tree made of it.
-///
-/// Of a value with a number that isn't whole, which is no tree, the answer says nothing but that it is proper.
-pub fn read_value(alloc: Global, value: &Value) -> Result<Shape, ShapeRefusal>
-    ensures spelled { IfOk result (λ s. (t : json.Tree)
-        → tree_of (value_view value.now) ≡ Some t → model.SpellsShape t (view s)) }
-    ensures proper { IfOk result (λ s. IsTrue (is_proper s)) }
-    ensures refused { IfErr result (λ e. (t : json.Tree)
-        → tree_of (value_view value.now) ≡ Some t → Tells e (model.shape_faults true t)) }
-{
-    read_spelling(alloc, value, true)
-}
-
-/// The same as [`read_v1`] tells it.
-pub fn read_value_v1(alloc: Global, value: &Value) -> Result<Shape, ShapeRefusal>
-    ensures spelled { IfOk result (λ s. (t : json.Tree)
-        → tree_of (value_view value.now) ≡ Some t → model.SpellsShapeV1 t (view s)) }
-    ensures proper { IfOk result (λ s. IsTrue (is_proper s)) }
-    ensures refused { IfErr result (λ e. (t : json.Tree)
-        → tree_of (value_view value.now) ≡ Some t → Tells e (model.shape_faults false t)) }
-{
-    read_spelling(alloc, value, false)
+    read_spelling(alloc, tree, false)
 }
 
 // The shape of the spelling; `several` says whether lists of types may stand.
 #[cycle(read)]
-fn read_spelling(alloc: Global, value: &Value, several: bool) -> Result<Shape, ShapeRefusal>
-    ensures spelled { IfOk result (λ s. SpellsAs several (trees.view value.now) (view s)) }
+fn read_spelling(alloc: Global, tree: &Tree, several: bool) -> Result<Shape, ShapeRefusal>
+    ensures spelled { IfOk result (λ s. SpellsAs several (trees.view tree.now) (view s)) }
     ensures proper { IfOk result (λ s. IsTrue (is_proper s)) }
     ensures refused { IfErr result
-        (λ e. Tells e (model.shape_faults several (trees.view value.now))) }
+        (λ e. Tells e (model.shape_faults several (trees.view tree.now))) }
 {
-    match read_level(alloc, value, several)? {
+    match read_level(alloc, tree, several)? {
         Level::Any => Ok(Shape::Any),
         Level::Never => Ok(Shape::Never),
         Level::Kinds {
@@ -160,7 +129,7 @@ fn read_list(
 #[cycle(read)]
 fn read_elements(
     alloc: Global,
-    elements: &[Value],
+    elements: &[Tree],
     several: bool,
 ) -> Result<Vec<Shape>, ShapeRefusal>
     ensures right { IfOk result
@@ -180,16 +149,16 @@ fn read_elements(
 
 // The shape of the further elements: `Any` where there is no spelling.
 #[cycle(read)]
-fn read_rest(alloc: Global, rest: Option<&Value>, several: bool) -> Result<Shape, ShapeRefusal>
-    ensures right { IfOk result (λ _. rest_faults several (trees.value_there rest.entry) ≡ []) }
-    ensures shape { IfOk result (λ s. view s ≡ rest_shape (trees.value_there rest.entry)) }
+fn read_rest(alloc: Global, rest: Option<&Tree>, several: bool) -> Result<Shape, ShapeRefusal>
+    ensures right { IfOk result (λ _. rest_faults several (trees.tree_there rest.entry) ≡ []) }
+    ensures shape { IfOk result (λ s. view s ≡ rest_shape (trees.tree_there rest.entry)) }
     ensures proper { IfOk result (λ s. IsTrue (is_proper s)) }
     ensures refused { IfErr result
-        (λ e. Tells e (rest_faults several (trees.value_there rest.entry))) }
+        (λ e. Tells e (rest_faults several (trees.tree_there rest.entry))) }
 {
     match rest {
         None => Ok(Shape::Any),
-        Some(value) => read_spelling(alloc, value, several),
+        Some(tree) => read_spelling(alloc, tree, several),
     }
 }
 
@@ -225,16 +194,16 @@ fn read_object(
 #[cycle(read)]
 fn read_properties(
     alloc: Global,
-    properties: Option<&Map<String, Value>>,
+    properties: Option<&BTreeMap<String, Tree>>,
     several: bool,
 ) -> Result<BTreeMap<String, Field>, ShapeRefusal>
     ensures right { IfOk result
-        (λ _. model.field_faults several (trees.entries_there properties.entry) ≡ []) }
+        (λ _. model.field_faults several (trees.fields_there properties.entry) ≡ []) }
     ensures fields { IfOk result
-        (λ m. fields_view m.entries ≡ model.field_shapes (trees.entries_there properties.entry)) }
+        (λ m. fields_view m.entries ≡ model.field_shapes (trees.fields_there properties.entry)) }
     ensures proper { IfOk result (λ m. IsTrue (fields_proper m.entries)) }
     ensures refused { IfErr result
-        (λ e. Tells e (model.field_faults several (trees.entries_there properties.entry))) }
+        (λ e. Tells e (model.field_faults several (trees.fields_there properties.entry))) }
 {
     match properties {
         None => Ok(BTreeMap::new(alloc)),
@@ -246,7 +215,7 @@ fn read_properties(
 #[cycle(read)]
 fn read_members(
     alloc: Global,
-    members: &Map<String, Value>,
+    members: &BTreeMap<String, Tree>,
     several: bool,
 ) -> Result<BTreeMap<String, Field>, ShapeRefusal>
     ensures right { IfOk result

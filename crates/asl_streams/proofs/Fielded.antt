@@ -1,5 +1,6 @@
 -- Reading a certificate's fields from tokens up to the end, and the certificate that they make.
-use Rattle.std.proofs.Common.{◌≡◌, ◌<◌, ℕ, Bool, List, [], ◌∷◌, ◌++◌, length, map, Option, Some, None, option_map, option_and_then, codes, pos, BTreeMap, Bor, Vec, Global, String, refl, sym, ap, ap₂, ◌∙◌, subst, arith}
+use mathlib.Core.Bool.{beq}
+use Rattle.std.proofs.Common.{◌≡◌, ◌<◌, ℕ, Bool, true, false, List, [], ◌∷◌, ◌++◌, length, map, Option, Some, None, option_map, option_and_then, codes, pos, BTreeMap, Bor, Vec, Global, String, refl, ap, ap₂, ◌∙◌, subst, arith}
 use Rattle.json.specs.Json.{if_last, read_key, value}
 use Rattle.json.specs.Lex.{tokens}
 use Rattle.json.specs.Token.{Token}
@@ -7,16 +8,15 @@ use Rattle.serde_json.specs.Data as values
 use Rattle.serde_json.specs.Data.{Data, Members}
 use Rattle.serde_json.specs.Find.{get_member}
 use Rattle.serde_json.specs.Read.{of_json, read}
-use Rattle.serde_json.specs.View.{view}
-use Rattle.serde_json.specs.declared.value.Value.{Value}
-use Rattle.asl_model.specs.Records.{Reading, certificate_reading, entries_from, listed_complaints, listed_in, shape_from, state_from, StandsForCertificate}
+use Rattle.asl_model.specs.Records.{Reading, certificate_reading, entries_from, listed_complaints, listed_in, state_from, StandsForCertificate}
 use Rattle.asl_model.specs.Shape.{Shape}
-use Rattle.asl_model.specs.Tree.{Tree}
+use Rattle.asl_model.specs.Tree as model
 use Rattle.asl_numbered.specs.Expansion.{IsNumberOf, Keeps}
 use Rattle.asl_numbered.specs.References.{numbers_given}
 use Rattle.asl_records.specs.Listed.{IsReading}
 use Rattle.asl_records.specs.Numbered.{AreWithin, numbered_view}
-use Rattle.asl_records.specs.Parts.{complaint_of, field_complaints, is_number, listed_row, reading_of, shape_complaints, trees_there, version_row}
+use Rattle.asl_records.specs.Parts.{complaint_of, field_complaints, is_number, listed_row, reading_of, tree_complaints, tree_shape, trees_there, version_row}
+use Rattle.asl_records.specs.Values.{IsPart, IsValue}
 use Rattle.asl_records.specs.declared.records.NumberedCertificate.{NumberedCertificate}
 use Rattle.asl_records.proofs.Certified.{is_its_reading, none_wrong}
 use Rattle.asl_records.proofs.Kept.{states_kept}
@@ -25,7 +25,11 @@ use Rattle.asl_records.specs.declared.records.StateNumbers.{StateNumbers}
 use Rattle.asl_streams.specs.Fielded.{AreFields, AreStates, AreStatesRead, IsList, ReadsField, ReadsFields}
 use Rattle.asl_streams.specs.Streamed.{SpellMembers}
 use Rattle.asl_streams.specs.declared.fields.Fields.{Fields}
-use Rattle.asl_streams.proofs.Opened.{object_opened, whole_object}
+use Rattle.asl_streams.proofs.Opened.{object_opened}
+use Rattle.asl_records.proofs.Values.{some_part}
+use Rattle.asl_streams.proofs.Values.{same_misfits, same_shape}
+use Rattle.asl_tree.specs.View.{view}
+use Rattle.asl_tree.specs.declared.Tree.{Tree}
 use Rattle.asl_tree.proofs.Parsed.{converted_there}
 use Rattle.asl_streams.proofs.Streams.{GoesOn, all_over, begun as members_begun, one_more}
 
@@ -40,7 +44,7 @@ pub begun : (several : Bool) (before : List Token) (now : List Shape) → Begun 
 begun several before now = record {
   found = values.no_members;
   goes_on = members_begun 126 before;
-  are = record { version = refl; output = refl; listed = tt; states = tt; whole = record { whole = refl }; foreign = refl };
+  are = record { version = refl; output = refl; listed = tt; states = tt; trees = model.NoFields; whole = refl; foreign = refl };
 }
 
 pub gone_on : (several : Bool) (before : List Token) (start now : List Shape) (left s r : List Token) (name : List ℕ) (old new : Fields) → read_key left ≡ Some (Some name, s) → length r < length s → Begun several before start left old → ReadsField several name start now s r old new → Begun several before now r new
@@ -65,19 +69,26 @@ lent_means several now found fields lent is h = lent_meant several now fields.li
 
 -- ---- the certificate
 
-list_right : (several : Bool) (now : List Shape) (listed : Option (List Tree)) (o : Option Data) (ns : Option (List ℕ)) → IsList several now o ns → field_complaints (reading_of several listed) [] listed_row o ≡ []
+list_right : (several : Bool) (now : List Shape) (listed : Option (List model.Tree)) (o : Option Data) (ns : Option (List ℕ)) → IsList several now o ns → field_complaints (reading_of several listed) [] listed_row o ≡ []
 list_right several now listed None None h = refl
 list_right several now listed None (Some ns) h = absurd h
 list_right several now listed (Some d) None h = absurd h
 list_right several now listed (Some d) (Some ns) h = rw h.is (ap (map (complaint_of [] (codes "shapes"))) h.right)
 
+-- the version read is the one expected
+pub equal : (read several : Bool) → beq read several ≡ true → several ≡ read
+equal true true e = refl
+equal true false e = absurd (cc)
+equal false true e = absurd (cc)
+equal false false e = refl
+
 -- what was read of the states
-stated_there : (several : Bool) (now : List Shape) (trees : Option (List Tree)) (o : Option Data) (es : List (String Global × StateNumbers)) → AreStates several now trees o (Some es) → (d : Data) × (o ≡ Some d) × AreStatesRead several now trees d es
+stated_there : (several : Bool) (now : List Shape) (trees : Option (List model.Tree)) (o : Option Data) (es : List (String Global × StateNumbers)) → AreStates several now trees o (Some es) → (d : Data) × (o ≡ Some d) × AreStatesRead several now trees d es
 stated_there several now trees None es h = absurd h
 stated_there several now trees (Some d) es h = (d, refl, h)
 
-module _ (several : Bool) (start now : List Shape) (found : Members) (fields : Fields) (output : Value) (n : ℕ) (h : AreFields several start found fields) (keeps : Keeps start now) where
-  abbrev trees : Option (List Tree)
+module _ (several : Bool) (start now : List Shape) (found : Members) (fields : Fields) (output : Tree) (n : ℕ) (h : AreFields several start found fields) (keeps : Keeps start now) where
+  abbrev trees : Option (List model.Tree)
   trees = trees_there (get_member (codes "shapes") found)
 
   module _ (states : BTreeMap (String Global) StateNumbers) (there : fields.output ≡ Some output) (stated : fields.states ≡ Some states) where
@@ -87,28 +98,30 @@ module _ (several : Bool) (start now : List Shape) (found : Members) (fields : F
     read_states : (d : Data) × (get_member (codes "states") found ≡ Some d) × AreStatesRead several start trees d states.entries
     read_states = stated_there several start trees (get_member (codes "states") found) states.entries (rw stated at h.states)
 
-    output_there : get_member (codes "output") found ≡ Some (view output)
-    output_there = h.output ∙ ap (option_map view) there
+    output_there : (d : Data) × (get_member (codes "output") found ≡ Some d) × IsValue (view output) d
+    output_there = some_part (view output) (get_member (codes "output") found) (subst (λ o. IsPart (option_map view o) (get_member (codes "output") found)) there h.output)
 
-    pub stands : several ≡ is_number (pos 2) (option_map view fields.version) → ((reading : Reading) → field_complaints reading [] version_row (option_map view fields.version) ≡ []) → shape_complaints (reading_of several trees) [] (codes "output") (view output) ≡ [] → IsNumberOf now (shape_from trees (view output)) n
-        → StandsForCertificate (values.object found) (numbered_view made)
+    pub stands : several ≡ is_number (pos 2) (get_member (codes "version") found) → ((reading : Reading) → field_complaints reading [] version_row (get_member (codes "version") found) ≡ [])
+        → tree_complaints (reading_of several trees) [] (codes "output") (view output) ≡ [] → IsNumberOf now (tree_shape trees (view output)) n → StandsForCertificate (values.object found) (numbered_view made)
     stands version right fits number =
         let v = values.object found in
         let reading = reading_of several (listed_in found) in
-        let its : reading ≡ certificate_reading found = is_its_reading several v found refl (version ∙ ap (is_number (pos 2)) (sym h.version)) in
+        let its : reading ≡ certificate_reading found = is_its_reading several v found refl version in
         let s = read_states in
         let states_there : get_member (codes "states") found ≡ Some (values.object s.2.found) = s.1 ∙ ap Some s.2.is in
         let kept = states_kept start now keeps (entries_from (state_from trees) s.2.found) states.entries s.2.same in
+        let d = output_there in
+        let fitting = ap (map (complaint_of [] (codes "output"))) (same_misfits reading d.0 (view output) d.2) ∙ fits in
         record {
-          whole = (whole_object found h.whole).whole;
+          whole = rw h.whole refl;
           none_wrong = subst (λ r. listed_complaints r v ≡ []) its (none_wrong reading v found refl h.foreign
-              (ap (field_complaints reading [] version_row) h.version ∙ right reading)
+              (right reading)
               (list_right several start (listed_in found) (get_member (codes "shapes") found) _ h.listed)
-              (rw (output_there, states_there) (ap₂ (λ xs ys. xs ++ ys) fits s.2.right)));
-          same = rw (output_there, states_there, number.same, kept.same) refl;
+              (rw (d.1, states_there) (ap₂ (λ xs ys. xs ++ ys) fitting s.2.right)));
+          same = rw (d.1, states_there, same_shape trees d.0 (view output) d.2, number.same, kept.same) refl;
         }
 
-    pub within : IsNumberOf now (shape_from trees (view output)) n → AreWithin made
+    pub within : IsNumberOf now (tree_shape trees (view output)) n → AreWithin made
     within number = record { output = number.within; states = (states_kept start now keeps (entries_from (state_from trees) read_states.2.found) states.entries read_states.2.same).below }
 
 -- ---- the whole text

@@ -1,5 +1,5 @@
 -- Reading the shapes that a certificate lists from tokens, one after another.
-use Rattle.std.proofs.Common.{◌≡◌, ◌-◌, ◌<◌, ◌≤◌, ℕ, Bool, List, [], ◌∷◌, ◌++◌, length, map, slice_get, true, option_map, Option, Some, None, Bor, is_some, refl, sym, ap, ap₂, ◌∙◌, subst, arith}
+use Rattle.std.proofs.Common.{◌≡◌, ◌-◌, ◌<◌, ◌≤◌, ℕ, Bool, List, [], ◌∷◌, ◌++◌, length, map, slice_get, option_map, Option, Some, None, Bor, refl, sym, ap, ap₂, ◌∙◌, subst, arith}
 use Rattle.std.proofs.lemmas.List.{map-append}
 use Rattle.json.specs.Json as json
 use Rattle.json.specs.Json.{after_end_array, items, value, parse_map}
@@ -8,18 +8,21 @@ use Rattle.json.proofs.Grammar.{after_end_array-shorter, items_end, items_more}
 use Rattle.serde_json.specs.Data as values
 use Rattle.serde_json.specs.Data.{Data, Items}
 use Rattle.serde_json.specs.Read.{of_json, of_items, converted}
-use Rattle.asl_model.specs.Json.{tree_of, elements_of}
-use Rattle.asl_model.specs.Records.{listed_after, listed_misfits, plain_tree, shape_from, shape_misfits}
+use Rattle.asl_model.specs.Records.{listed_after, listed_misfits, tree_misfits}
+use Rattle.asl_model.specs.References.{spelled_out}
 use Rattle.asl_model.specs.Shape.{Shape}
 use Rattle.asl_model.specs.ShapeSpelling.{shape_of, shape_faults}
-use Rattle.asl_model.specs.Tree.{Tree}
+use Rattle.asl_model.specs.Tree.{Tree, Trees, NoTrees, AndTree}
 use Rattle.asl_numbered.specs.Expansion.{shape_at, AreBelow, IsNumberOf, Keeps}
 use Rattle.asl_numbered.specs.Laws.{below-append, keeps_same, keeps_trans, kept_numbers, kept_shapes}
 use Rattle.asl_records.specs.Listed.{AreInTable, AreMeant, ForReading, IsReading}
-use Rattle.asl_records.specs.Parts.{IsWhole, ElementsAreWhole, complaint_of, reading_of, shape_complaints}
+use Rattle.asl_records.specs.Parts.{complaint_of, reading_of, tree_complaints, tree_shape}
+use Rattle.asl_records.specs.Values.{AreItems}
 use Rattle.asl_records.proofs.Lists.{none_mapped}
 use Rattle.asl_records.proofs.Trees.{pushed_right, right_tree}
 use Rattle.asl_streams.specs.Streamed.{ReadsList, SpellItems}
+use Rattle.asl_streams.proofs.Values.{same_misfits, same_plain, value_spelled}
+use Rattle.asl_tree.specs.Parsed.{spelled}
 use Rattle.asl_tree.proofs.Parsed.{converted_there}
 
 -- these elements, and the others behind them
@@ -69,18 +72,6 @@ one_more levels d before left r found going e shorter h =
 all_over : (levels : ℕ) (before left r : List Token) (found : List Data) → after_end_array left ≡ Some r → GoesOn levels before left found → SpellItems levels before r (front found values.no_items)
 all_over levels before left r found end h = h.same ∙ ap (λ o. parse_map (front found) (converted of_items o)) (items_end (value levels) h.turns left r h.enough end)
 
--- ---- whole elements
-
-some_there : {A : Type 0} (o : Option A) → is_some o ≡ true → (a : A) × (o ≡ Some a)
-some_there None h = absurd (cc)
-some_there (Some a) h = (a, refl)
-
-whole_item : (d : Data) (ds : Items) → IsWhole d → ElementsAreWhole ds → ElementsAreWhole (values.item d ds)
-whole_item d ds one all =
-    let t = some_there (tree_of d) one.whole in
-    let ts = some_there (elements_of ds) all.whole in
-    record { whole = rw (t.1, ts.1) refl }
-
 -- ---- listed shapes
 
 module _ (several : Bool) (start : List Shape) (levels : ℕ) (before : List Token) where
@@ -92,7 +83,7 @@ module _ (several : Bool) (start : List Shape) (levels : ℕ) (before : List Tok
     pub keeps : Keeps start now
     meant : AreMeant several now ns trees
     below : AreBelow (length now) ns
-    whole : (rest : Items) → ElementsAreWhole rest → ElementsAreWhole (front found rest)
+    whole : (rest : Items) (ts : Trees) → AreItems ts rest → (all : Trees) × AreItems all (front found rest)
     wrong : (rest : Items) → listed_misfits several [] (front found rest) ≡ listed_misfits several trees rest
     listed : (rest : Items) → listed_after [] (front found rest) ≡ listed_after trees rest
 
@@ -110,7 +101,7 @@ module _ (several : Bool) (start : List Shape) (levels : ℕ) (before : List Tok
     keeps = keeps_same start;
     meant = record { shapes = refl; right = none_there };
     below = tt;
-    whole = λ rest h. h;
+    whole = λ rest ts are. (ts, are);
     wrong = λ rest. refl;
     listed = λ rest. refl;
   })
@@ -122,30 +113,36 @@ module _ (several : Bool) (start : List Shape) (levels : ℕ) (before : List Tok
   means_these : (now : List Shape) (left : List Token) (ns : List ℕ) (lent : Bor (List ℕ)) → lent.now ≡ ns → (h : Lists now left ns) → IsReading several now (Some lent.now) (reading_of several (Some h.trees))
   means_these now left ns lent same h = record { same = refl; meant = subst (λ ms. AreMeant several now ms h.trees) (sym same) h.meant }
 
-  pub gone_on : (name field : List ℕ) (now new : List Shape) (left r : List Token) (ns more : List ℕ) (lent : Bor (List ℕ)) (d : Data) (n : ℕ) → lent.now ≡ ns → Lists now left ns → after_end_array left ≡ None → converted of_json (value levels left) ≡ Some (d, r) → length r < length left → IsWhole d → Keeps now new
-      → ForReading several now (Some lent) (λ reading. shape_complaints reading name field d ≡ []) → ForReading several now (Some lent) (λ reading. IsNumberOf new (shape_from reading.listed d) n) → more ≡ ns ++ n ∷ [] → Lists new r more
-  gone_on name field now new left r ns more lent d n same h going e shorter whole keeps right is made =
+  pub gone_on : (name field : List ℕ) (now new : List Shape) (left r : List Token) (ns more : List ℕ) (lent : Bor (List ℕ)) (t : Tree) (n : ℕ) → lent.now ≡ ns → Lists now left ns → after_end_array left ≡ None → converted spelled (value levels left) ≡ Some (t, r) → length r < length left → Keeps now new
+      → ForReading several now (Some lent) (λ reading. tree_complaints reading name field t ≡ []) → ForReading several now (Some lent) (λ reading. IsNumberOf new (tree_shape reading.listed t) n) → more ≡ ns ++ n ∷ [] → Lists new r more
+  gone_on name field now new left r ns more lent t n same h going e shorter keeps right is made =
+      let read = value_spelled (value levels left) t r e in
+      let d = read.value in
+      let reading = reading_of several (Some h.trees) in
       let means = means_these now left ns lent same h in
-      let number = is.each (reading_of several (Some h.trees)) means in
-      let t = plain_tree h.trees d in
-      let tree = right_tree several h.trees name field d whole (right.each (reading_of several (Some h.trees)) means) in
+      let number = is.each reading means in
+      let plain = spelled_out h.trees t in
       let within : n < length new = number.within in
-      let one : shape_of t ≡ shape_at new n = tree.0 ∙ sym number.same in
+      let one : shape_of plain ≡ shape_at new n = sym number.same in
       let earlier : map shape_of h.trees ≡ map (shape_at new) ns = h.meant.shapes ∙ sym (kept_shapes now new ns keeps h.below) in
-      let none : shape_misfits (reading_of several (Some h.trees)) d ≡ [] = none_mapped (complaint_of name field) (shape_misfits (reading_of several (Some h.trees)) d) (right.each (reading_of several (Some h.trees)) means) in
+      let none : tree_misfits reading t ≡ [] = none_mapped (complaint_of name field) (tree_misfits reading t) (right.each reading means) in
       record {
         found = h.found ++ d ∷ [];
-        goes_on = one_more levels d before left r h.found going e shorter h.goes_on;
-        trees = h.trees ++ t ∷ [];
+        goes_on = one_more levels d before left r h.found going read.read shorter h.goes_on;
+        trees = h.trees ++ plain ∷ [];
         keeps = keeps_trans start now new h.keeps keeps;
-        meant = subst (λ ms. AreMeant several new ms (h.trees ++ t ∷ [])) (sym made) (record {
-          shapes = map-append shape_of h.trees (t ∷ []) ∙ (ap₂ (λ xs x. xs ++ x ∷ []) earlier one ∙ sym (map-append (shape_at new) ns (n ∷ [])));
-          right = pushed_right several h.trees t h.meant.right tree.1;
+        meant = subst (λ ms. AreMeant several new ms (h.trees ++ plain ∷ [])) (sym made) (record {
+          shapes = map-append shape_of h.trees (plain ∷ []) ∙ (ap₂ (λ xs x. xs ++ x ∷ []) earlier one ∙ sym (map-append (shape_at new) ns (n ∷ [])));
+          right = pushed_right several h.trees plain h.meant.right (right_tree several h.trees t none);
         });
         below = subst (AreBelow (length new)) (sym made) (below-append (length new) ns (n ∷ []) (kept_numbers now new ns keeps h.below) (within, tt));
-        whole = λ rest all. subst ElementsAreWhole (sym (front_push h.found d rest)) (h.whole (values.item d rest) (whole_item d rest whole all));
-        wrong = λ rest. ap (listed_misfits several []) (front_push h.found d rest) ∙ h.wrong (values.item d rest) ∙ ap (λ fs. fs ++ listed_misfits several (h.trees ++ t ∷ []) rest) none;
-        listed = λ rest. ap (listed_after []) (front_push h.found d rest) ∙ h.listed (values.item d rest);
+        whole = λ rest ts are.
+            let all = h.whole (values.item d rest) (AndTree t ts) (rw (read.is, are) refl) in
+            (all.0, subst (AreItems all.0) (sym (front_push h.found d rest)) all.1);
+        wrong = λ rest.
+            ap (listed_misfits several []) (front_push h.found d rest) ∙ h.wrong (values.item d rest)
+            ∙ ap₂ (λ fs u. fs ++ listed_misfits several (h.trees ++ u ∷ []) rest) (same_misfits reading d t read.is ∙ none) (same_plain h.trees d t read.is);
+        listed = λ rest. ap (listed_after []) (front_push h.found d rest) ∙ h.listed (values.item d rest) ∙ ap (λ u. listed_after (h.trees ++ u ∷ []) rest) (same_plain h.trees d t read.is);
       }
 
   pub lists_shorter : (now : List Shape) (left r : List Token) (ns : List ℕ) → Lists now left ns → after_end_array left ≡ Some r → length r < length before
@@ -155,7 +152,8 @@ module _ (several : Bool) (start : List Shape) (levels : ℕ) (before : List Tok
   over now left r ns h end = record {
     found = front h.found values.no_items;
     spelled = all_over levels before left r h.found end h.goes_on;
-    whole = h.whole values.no_items (record { whole = refl });
+    elements = (h.whole values.no_items NoTrees refl).0;
+    whole = (h.whole values.no_items NoTrees refl).1;
     right = h.wrong values.no_items;
     meant = subst (AreMeant several now ns) (sym (h.listed values.no_items)) h.meant;
     below = h.below;

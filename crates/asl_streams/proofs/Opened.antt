@@ -1,5 +1,5 @@
 -- An array and an object are what stands behind their bracket.
-use Rattle.std.proofs.Common.{◌≡◌, ◌-◌, ◌<◌, ℕ, List, ◌∷◌, length, Option, Some, None, option_map, is_some, true, refl, ap, ◌∙◌}
+use Rattle.std.proofs.Common.{◌≡◌, ◌-◌, ◌<◌, ℕ, List, ◌∷◌, length, Option, Some, None, option_map, refl, ap, ◌∙◌}
 use Rattle.json.specs.Json as json
 use Rattle.json.specs.Json.{items, members, value, parse_map}
 use Rattle.json.specs.Token.{Token}
@@ -7,9 +7,8 @@ use Rattle.json.proofs.Grammar.{value-begin_array, value-begin_object}
 use Rattle.serde_json.specs.Data as values
 use Rattle.serde_json.specs.Data.{Data, Items, Members}
 use Rattle.serde_json.specs.Read.{converted, of_items, of_json, of_members}
-use Rattle.asl_model.specs.Json.{elements_of, members_of}
 use Rattle.asl_model.specs.Tree as model
-use Rattle.asl_records.specs.Parts.{AreWhole, ElementsAreWhole, IsWhole}
+use Rattle.asl_records.specs.Values.{AreItems, AreMembers, IsValue}
 use Rattle.asl_streams.specs.Streamed.{SpellItems, SpellMembers}
 
 turned : {A B : Type 0} (g : A → B) (r : List Token) (o : Option A) → option_map (λ b. (b, r)) (option_map g o) ≡ parse_map g (option_map (λ a. (a, r)) o)
@@ -32,14 +31,10 @@ pub object_opened : (levels : ℕ) (before ts r : List Token) (found : Members) 
 object_opened levels before ts r found some first e =
     ap (λ all. converted of_json (value levels all)) first ∙ ap (converted of_json) (value-begin_object levels ts some) ∙ object_of (members (value (levels - 1)) (length ts) ts) ∙ ap (parse_map values.object) e
 
--- ---- their numbers are whole where those of what is in them are
+-- ---- they are the trees that what is in them makes
 
-mapped_whole : {A B : Type 0} (f : A → B) (o : Option A) → is_some o ≡ true → is_some (option_map f o) ≡ true
-mapped_whole f None h = absurd (cc)
-mapped_whole f (Some a) h = refl
+pub array_tree : (found : Items) (ts : model.Trees) → AreItems ts found → IsValue (model.Array ts) (values.array found)
+array_tree found ts are = ap (option_map model.Array) are
 
-pub whole_array : (found : Items) → ElementsAreWhole found → IsWhole (values.array found)
-whole_array found h = record { whole = mapped_whole model.Array (elements_of found) h.whole }
-
-pub whole_object : (found : Members) → AreWhole found → IsWhole (values.object found)
-whole_object found h = record { whole = mapped_whole model.Object (members_of found) h.whole }
+pub object_tree : (found : Members) (fs : model.Fields) → AreMembers fs found → IsValue (model.Object fs) (values.object found)
+object_tree found fs are = ap (option_map model.Object) are

@@ -1,5 +1,5 @@
 -- What is read of members stays right where one more is put among them.
-use Rattle.std.proofs.Common.{◌≡◌, ℕ, List, [], ◌∷◌, ◌++◌, length, String, Global, string_bytes, string_cmp, is_some, true, Option, Some, None, option_map, option_and_then, Ordering, Less, Equal, Greater, nat_cmp, refl, sym, ap, ap₂, ◌∙◌, subst}
+use Rattle.std.proofs.Common.{◌≡◌, ℕ, List, [], ◌∷◌, ◌++◌, length, String, Global, string_bytes, string_cmp, Ordering, Less, Equal, Greater, nat_cmp, refl, sym, ap, ap₂, ◌∙◌, subst}
 use Rattle.std.specs.BTreeMap.{insert_entry}
 use Rattle.std.specs.Cmp.Lexicographic.{slice_cmp}
 use Rattle.std.specs.List.{AllByRecursion}
@@ -7,50 +7,12 @@ use Rattle.std.specs.Ordering.{match_ordering}
 use Rattle.serde_json.specs.Data as values
 use Rattle.serde_json.specs.Data.{Data, Members}
 use Rattle.asl_model.specs.Certificate.{StateShapes}
-use Rattle.asl_model.specs.Json.{tree_of, members_of}
 use Rattle.asl_model.specs.Records.{Reading, RecordComplaint, RecordRow, entries_complaints, entries_from, object_complaints}
 use Rattle.asl_model.specs.Shape.{Shape}
-use Rattle.asl_model.specs.Tree as model
 use Rattle.asl_records.specs.Numbered.{numbers_view, numbered_entries, AreNumbersBelow}
 use Rattle.asl_records.specs.Numbering.{AreStateOf, AreStatesOf}
-use Rattle.asl_records.specs.Parts.{IsWhole, AreWhole}
 use Rattle.asl_records.specs.declared.records.StateNumbers.{StateNumbers}
 use Rattle.asl_shape.proofs.Mentions.{equal_names}
-
--- ---- whole members
-
-some_there : {A : Type 0} (o : Option A) → is_some o ≡ true → (a : A) × (o ≡ Some a)
-some_there None h = absurd (cc)
-some_there (Some a) h = (a, refl)
-
-whole_member : (k : List ℕ) (d : Data) (ms : Members) → is_some (tree_of d) ≡ true → is_some (members_of ms) ≡ true → is_some (members_of (values.member k d ms)) ≡ true
-whole_member k d ms one all =
-    let t = some_there (tree_of d) one in
-    let fs = some_there (members_of ms) all in
-    rw (t.1, fs.1) refl
-
-whole_parts : (k : List ℕ) (d : Data) (ms : Members) → is_some (members_of (values.member k d ms)) ≡ true → (is_some (tree_of d) ≡ true) × (is_some (members_of ms) ≡ true)
-whole_parts k d ms h = go (tree_of d) (members_of ms) h
-  where
-    go : (o : Option model.Tree) (p : Option model.Fields) → is_some (option_and_then (λ t. option_map (model.AndField k t) p) o) ≡ true → (is_some o ≡ true) × (is_some p ≡ true)
-    go None p h = absurd (cc)
-    go (Some t) None h = absurd (cc)
-    go (Some t) (Some fs) h = (refl, refl)
-
-put_whole : (k : List ℕ) (d : Data) (ms : Members) → is_some (tree_of d) ≡ true → is_some (members_of ms) ≡ true → is_some (members_of (values.put k d ms)) ≡ true
-put_whole k d values.no_members one all = whole_member k d values.no_members one refl
-put_whole k d (values.member l e ms) one all =
-    let p = whole_parts l e ms all in
-    go (slice_cmp nat_cmp k l) p.0 p.1 (put_whole k d ms one p.1)
-  where
-    go : (o : Ordering) → is_some (tree_of e) ≡ true → is_some (members_of ms) ≡ true → is_some (members_of (values.put k d ms)) ≡ true
-        → is_some (members_of (match_ordering o (values.member k d (values.member l e ms)) (values.member l d ms) (values.member l e (values.put k d ms)))) ≡ true
-    go Less first rest further = whole_member k d (values.member l e ms) one (whole_member l e ms first rest)
-    go Equal first rest further = whole_member l d ms one rest
-    go Greater first rest further = whole_member l e (values.put k d ms) first further
-
-pub whole_put : (k : List ℕ) (d : Data) (ms : Members) → IsWhole d → AreWhole ms → AreWhole (values.put k d ms)
-whole_put k d ms one all = record { whole = put_whole k d ms one.whole all.whole }
 
 -- ---- complaints
 

@@ -1,25 +1,28 @@
 -- Reading a certificate's fields from tokens, one after another.
-use Rattle.std.proofs.Common.{◌≡◌, ℕ, Bool, true, false, List, [], ◌∷◌, Option, Some, None, codes, is_some, if◌then◌else◌, BTreeMap, Vec, Global, String, Ordering, Less, Equal, Greater, nat_cmp, refl, sym, ap, ◌∙◌, subst}
+use Rattle.std.proofs.Common.{◌≡◌, ℕ, Bool, true, false, List, [], ◌∷◌, Option, Some, None, codes, is_some, option_map, if◌then◌else◌, BTreeMap, Vec, Global, String, Ordering, Less, Equal, Greater, nat_cmp, refl, sym, ap, ◌∙◌, subst}
 use Rattle.std.specs.Cmp.Lexicographic.{slice_cmp}
 use Rattle.std.specs.Ordering.{is_eq, match_ordering}
 use Rattle.std.proofs.lemmas.Cmp.{nat_list_cmp_total, tied_itself}
 use Rattle.serde_json.specs.Data as values
 use Rattle.serde_json.specs.Data.{Data, Members}
 use Rattle.serde_json.specs.Find.{get_member}
-use Rattle.serde_json.specs.View.{view}
-use Rattle.serde_json.specs.declared.value.Value.{Value}
+use Rattle.asl_model.specs.Json.{tree_of}
 use Rattle.asl_model.specs.Records.{UnknownField}
 use Rattle.asl_model.specs.Shape.{Shape}
 use Rattle.asl_model.specs.ShapeSpelling.{is_among}
-use Rattle.asl_model.specs.Tree.{Tree}
+use Rattle.asl_model.specs.Tree as model
 use Rattle.asl_numbered.specs.Expansion.{Keeps}
 use Rattle.asl_numbered.specs.Laws.{kept_numbers, kept_shapes}
-use Rattle.asl_records.specs.Parts.{IsWhole, complaint_of, foreign_complaints, trees_there}
+use Rattle.asl_records.specs.Parts.{complaint_of, foreign_complaints, trees_there}
+use Rattle.asl_records.specs.Values.{IsValue}
 use Rattle.asl_records.specs.declared.records.StateNumbers.{StateNumbers}
 use Rattle.asl_shape.proofs.Mentions.{equal_names}
 use Rattle.asl_streams.specs.Fielded.{AreFields, AreStates, AreStatesRead, IsList, IsListRead, known}
 use Rattle.asl_streams.specs.declared.fields.Fields.{Fields}
-use Rattle.asl_streams.proofs.Put.{whole_put}
+use Rattle.asl_tree.specs.View.{view}
+use Rattle.asl_tree.specs.declared.Tree.{Tree}
+use Rattle.asl_tree.proofs.Parsed.{put_among}
+use Rattle.asl_tree.proofs.Views.{put}
 
 -- ---- what stands under a name
 
@@ -83,7 +86,7 @@ pub none_read : {A : Type 0} (o : Option A) → is_some o ≡ false → o ≡ No
 none_read None h = refl
 none_read (Some a) h = absurd (cc)
 
-none_stated : (several : Bool) (now : List Shape) (trees : Option (List Tree)) (o : Option Data) → AreStates several now trees o None → o ≡ None
+none_stated : (several : Bool) (now : List Shape) (trees : Option (List model.Tree)) (o : Option Data) → AreStates several now trees o None → o ≡ None
 none_stated several now trees None h = refl
 none_stated several now trees (Some d) h = absurd h
 
@@ -94,61 +97,63 @@ none_listed several now (Some d) h = absurd h
 -- ---- one more field
 
 module _ (several : Bool) (found : Members) (old : Fields) where
-  pub version_put : (table : List Shape) (version : Value) → IsWhole (view version) → AreFields several table found old
-      → AreFields several table (values.put (codes "version") (view version) found) (record { version = Some version; listed = old.listed; output = old.output; states = old.states })
-  version_put table version whole h =
+  pub version_put : (table : List Shape) (version : Tree) (d : Data) → IsValue (view version) d → AreFields several table found old
+      → AreFields several table (values.put (codes "version") d found) (record { version = Some version; listed = old.listed; output = old.output; states = old.states })
+  version_put table version d is h =
       let k = codes "version" in
-      let d = view version in
       record {
-        version = found_there k d found;
-        output = found_before (codes "output") k d found refl ∙ h.output;
+        version = ap (option_map tree_of) (found_there k d found) ∙ ap Some is;
+        output = ap (option_map tree_of) (found_before (codes "output") k d found refl) ∙ h.output;
         listed = rw (found_before (codes "shapes") k d found refl) h.listed;
         states = rw (found_before (codes "shapes") k d found refl, found_before (codes "states") k d found refl) h.states;
-        whole = whole_put k d found whole h.whole;
+        trees = put k (view version) h.trees;
+        whole = put_among k d (view version) found h.trees is h.whole;
         foreign = known_put k d found refl h.foreign;
       }
 
-  pub output_put : (table : List Shape) (output : Value) → IsWhole (view output) → AreFields several table found old
-      → AreFields several table (values.put (codes "output") (view output) found) (record { version = old.version; listed = old.listed; output = Some output; states = old.states })
-  output_put table output whole h =
+  pub output_put : (table : List Shape) (output : Tree) (d : Data) → IsValue (view output) d → AreFields several table found old
+      → AreFields several table (values.put (codes "output") d found) (record { version = old.version; listed = old.listed; output = Some output; states = old.states })
+  output_put table output d is h =
       let k = codes "output" in
-      let d = view output in
       record {
-        version = found_before (codes "version") k d found refl ∙ h.version;
-        output = found_there k d found;
+        version = ap (option_map tree_of) (found_before (codes "version") k d found refl) ∙ h.version;
+        output = ap (option_map tree_of) (found_there k d found) ∙ ap Some is;
         listed = rw (found_before (codes "shapes") k d found refl) h.listed;
         states = rw (found_before (codes "shapes") k d found refl, found_before (codes "states") k d found refl) h.states;
-        whole = whole_put k d found whole h.whole;
+        trees = put k (view output) h.trees;
+        whole = put_among k d (view output) found h.trees is h.whole;
         foreign = known_put k d found refl h.foreign;
       }
 
   -- ---- the shapes that are listed
 
-  pub shapes_put : (start now : List Shape) (stated : Data) (numbers : Vec ℕ Global) → old.states ≡ None → IsWhole stated → IsListRead several now stated numbers.items → AreFields several start found old
+  pub shapes_put : (start now : List Shape) (stated : Data) (t : model.Tree) (numbers : Vec ℕ Global) → old.states ≡ None → IsValue t stated → IsListRead several now stated numbers.items → AreFields several start found old
       → AreFields several now (values.put (codes "shapes") stated found) (record { version = old.version; listed = Some numbers; output = old.output; states = old.states })
-  shapes_put start now stated numbers unstated whole is h =
+  shapes_put start now stated t numbers unstated made is h =
       let k = codes "shapes" in
       let none : get_member (codes "states") found ≡ None = none_stated several start _ _ (rw unstated at h.states) in
       record {
-        version = found_before (codes "version") k stated found refl ∙ h.version;
-        output = found_before (codes "output") k stated found refl ∙ h.output;
+        version = ap (option_map tree_of) (found_before (codes "version") k stated found refl) ∙ h.version;
+        output = ap (option_map tree_of) (found_before (codes "output") k stated found refl) ∙ h.output;
         listed = rw (found_there k stated found) is;
         states = rw (unstated, found_before (codes "states") k stated found refl, none) tt;
-        whole = whole_put k stated found whole h.whole;
+        trees = put k t h.trees;
+        whole = put_among k stated t found h.trees made h.whole;
         foreign = known_put k stated found refl h.foreign;
       }
 
   -- ---- the states
 
-  pub states_put : (start now : List Shape) (stated : Data) (states : BTreeMap (String Global) StateNumbers) → Keeps start now → IsWhole stated → AreStatesRead several now (trees_there (get_member (codes "shapes") found)) stated states.entries → AreFields several start found old
+  pub states_put : (start now : List Shape) (stated : Data) (t : model.Tree) (states : BTreeMap (String Global) StateNumbers) → Keeps start now → IsValue t stated → AreStatesRead several now (trees_there (get_member (codes "shapes") found)) stated states.entries → AreFields several start found old
       → AreFields several now (values.put (codes "states") stated found) (record { version = old.version; listed = old.listed; output = old.output; states = Some states })
-  states_put start now stated states keeps whole are h =
+  states_put start now stated t states keeps made are h =
       let k = codes "states" in
       record {
-        version = found_before (codes "version") k stated found refl ∙ h.version;
-        output = found_before (codes "output") k stated found refl ∙ h.output;
+        version = ap (option_map tree_of) (found_before (codes "version") k stated found refl) ∙ h.version;
+        output = ap (option_map tree_of) (found_before (codes "output") k stated found refl) ∙ h.output;
         listed = rw (found_before (codes "shapes") k stated found refl) (list_kept several start now keeps _ _ h.listed);
         states = rw (found_before (codes "shapes") k stated found refl, found_there k stated found) are;
-        whole = whole_put k stated found whole h.whole;
+        trees = put k t h.trees;
+        whole = put_among k stated t found h.trees made h.whole;
         foreign = known_put k stated found refl h.foreign;
       }

@@ -6,17 +6,19 @@ use Rattle.json.specs.Token.{Token}
 use Rattle.serde_json.specs.Data.{Data, Items, Members, array, object, put}
 use Rattle.serde_json.specs.Find.{get_member}
 use Rattle.serde_json.specs.Read.{converted, of_json}
-use Rattle.serde_json.specs.View.{view}
 use Rattle.asl_model.specs.Records.{certificate_rows, entries_complaints, entries_from, listed_after, listed_misfits, state_from, state_rows}
 use Rattle.asl_model.specs.Shape.{Shape}
+use Rattle.asl_model.specs.Tree as model
 use Rattle.asl_model.specs.Tree.{Tree}
 use Rattle.asl_numbered.specs.Expansion.{AreBelow}
 use Rattle.asl_records.specs.Listed.{AreMeant}
 use Rattle.asl_records.specs.Numbering.{AreStatesOf}
-use Rattle.asl_records.specs.Parts.{AreWhole, foreign_complaints, reading_of, trees_there}
+use Rattle.asl_records.specs.Parts.{foreign_complaints, reading_of, trees_there}
+use Rattle.asl_records.specs.Values.{AreMembers, IsPart}
 use Rattle.asl_records.specs.declared.records.StateNumbers.{StateNumbers}
 use Rattle.asl_streams.specs.Streamed.{SpellMembers}
 use Rattle.asl_streams.specs.declared.fields.Fields.{Fields}
+use Rattle.asl_tree.specs.View.{view}
 
 -- the names of a certificate's fields
 abbrev pub known : List (List ℕ)
@@ -52,11 +54,12 @@ AreStates several now trees (Some stated) (Some entries) = AreStatesRead several
 
 -- the members that were found are these fields
 pub record AreFields (several : Bool) (now : List Shape) (found : Members) (fields : Fields) : Type 0 where
-  pub version : get_member (codes "version") found ≡ option_map view fields.version
-  pub output : get_member (codes "output") found ≡ option_map view fields.output
+  pub version : IsPart (option_map view fields.version) (get_member (codes "version") found)
+  pub output : IsPart (option_map view fields.output) (get_member (codes "output") found)
   pub listed : IsList several now (get_member (codes "shapes") found) (option_map (λ ns. ns.items) fields.listed)
   pub states : AreStates several now (trees_there (get_member (codes "shapes") found)) (get_member (codes "states") found) (option_map (λ m. m.entries) fields.states)
-  pub whole : AreWhole found
+  pub trees : model.Fields
+  pub whole : AreMembers trees found
   pub foreign : foreign_complaints [] known found ≡ []
 
 -- one more was read

@@ -8,10 +8,11 @@ use Rattle.serde_json.specs.Data.{Items, Members, no_members}
 use Rattle.serde_json.specs.Read.{converted, of_items, of_members}
 use Rattle.asl_model.specs.Records.{entries_complaints, entries_from, listed_after, listed_misfits, state_from, state_rows}
 use Rattle.asl_model.specs.Shape.{Shape}
+use Rattle.asl_model.specs.Tree.{Fields, Trees}
 use Rattle.asl_numbered.specs.Expansion.{AreBelow}
 use Rattle.asl_records.specs.Listed.{AreMeant, ForReading}
 use Rattle.asl_records.specs.Numbering.{AreStatesOf}
-use Rattle.asl_records.specs.Parts.{AreWhole, ElementsAreWhole}
+use Rattle.asl_records.specs.Values.{AreItems, AreMembers}
 use Rattle.asl_records.specs.declared.records.StateNumbers.{StateNumbers}
 
 -- the tokens spell these members, or these elements, with at most so many levels in them, and the others are left
@@ -27,7 +28,8 @@ pub record ReadsStates (several : Bool) (given : Option (Bor (List ℕ))) (start
     (before after : List Token) (entries : List (String Global × StateNumbers)) : Type 0 where
   pub found : Members
   pub spelled : SpellMembers levels before after found
-  pub whole : AreWhole found
+  pub fields : Fields
+  pub whole : AreMembers fields found
   pub right : ForReading several start given (λ reading. entries_complaints reading state_rows found ≡ [])
   pub same : ForReading several start given
       (λ reading. AreStatesOf now (entries_from (state_from reading.listed) found) entries)
@@ -37,7 +39,8 @@ pub record ReadsList (several : Bool) (now : List Shape) (levels : ℕ) (before 
     : Type 0 where
   pub found : Items
   pub spelled : SpellItems levels before after found
-  pub whole : ElementsAreWhole found
+  pub elements : Trees
+  pub whole : AreItems elements found
   pub right : listed_misfits several [] found ≡ []
   pub meant : AreMeant several now numbers (listed_after [] found)
   pub below : AreBelow (length now) numbers

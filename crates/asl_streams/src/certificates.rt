@@ -1,12 +1,10 @@
 //! A certificate read from the tokens of its text.
-ghost use Rattle.std.specs.Prelude.{◌≡◌, ◌<◌, Some, length, IfOk, IfSome};
+ghost use Rattle.std.specs.Prelude.{◌≡◌, Some, length, IfOk, IfSome};
 ghost use Rattle.serde_json.specs.Data.{Data, Members, object};
 ghost use Rattle.serde_json.specs.Read.{read};
-ghost use Rattle.serde_json.specs.View.{view};
 ghost use Rattle.asl_model.specs.Records.{StandsForCertificate};
 ghost use Rattle.asl_numbered.specs.Expansion.{AreBelow};
 ghost use Rattle.asl_records.specs.Numbered.{AreWithin, numbered_view};
-ghost use Rattle.asl_records.specs.Parts.{IsWhole};
 ghost use Rattle.asl_streams.specs.Fielded.{AreFields};
 
 use crate::fields::{Fields, next_fields};
@@ -18,7 +16,7 @@ use json::{Reader as Tokens, Scratch, Token};
 use std::alloc::Global;
 
 /// The certificate that a JSON text stands for, with its shapes in a table, each distinct one once. The table may have
-/// further shapes. It is read entry by entry: of the text one state's entry at a time is a JSON value, and the output's shape.
+/// further shapes. It is read entry by entry: of the text one state's entry at a time is a tree, and the output's shape.
 /// None where it isn't read so, which says nothing of the text: it may be no certificate, or one in which the list of shapes
 /// stands behind the states, or a value breaks a rule whose name comes again, or the version is 2 and neither the first nor
 /// the last field.
@@ -77,15 +75,13 @@ fn certificate_of(
     fields: Fields,
 ) -> Result<NumberedCertificate, Unread>
     requires listed { IfSome fields.listed (λ ns. AreBelow (length shapes) ns.items) }
-    requires version { IfSome fields.version (λ v. IsWhole (view v)) }
-    requires output { IfSome fields.output (λ v. IsWhole (view v)) }
     ensures certificate { IfOk result (λ certificate. (found : Members)
         → AreFields several shapes found fields
         → StandsForCertificate (object found) (numbered_view certificate)) }
     ensures within { (found : Members) → AreFields several shapes found fields
         → IfOk result AreWithin }
 {
-    match read_version(alloc, fields.version) {
+    match read_version(alloc, fields.version.as_ref()) {
         Ok(read) if read == several => {}
         _ => return Err(Unread::Whole),
     }
@@ -98,7 +94,7 @@ fn certificate_of(
         several,
         listed: fields.listed.as_deref(),
     };
-    match record.read_number(&mut shapes, "output", output) {
+    match record.read_number(&mut shapes, "output", &output) {
         Ok(output) => Ok(NumberedCertificate {
             shapes,
             output,

@@ -1,39 +1,16 @@
 //! The entries of a certificate's states, and the shapes that it lists, read from tokens one after another.
-ghost use Rattle.std.specs.Prelude.{◌≡◌, ◌<◌, Some, length, IfOk, OnOk};
-ghost use Rattle.json.specs.Json.{value};
-ghost use Rattle.serde_json.specs.Read.{converted, of_json};
-ghost use Rattle.serde_json.specs.View.{view};
+ghost use Rattle.std.specs.Prelude.{◌<◌, length, IfOk, OnOk};
 ghost use Rattle.asl_numbered.specs.Expansion.{Keeps};
 ghost use Rattle.asl_records.specs.Listed.{AreInTable};
-ghost use Rattle.asl_records.specs.Parts.{IsWhole};
 ghost use Rattle.asl_streams.specs.Streamed.{ReadsList, ReadsStates};
 
 use crate::unread::{Unread, no_part, no_tree};
 use asl_numbered::Shapes;
 use asl_records::{Reader, StateNumbers, read_state};
-use asl_tree::{next_tree, to_value};
+use asl_tree::next_tree;
 use json::Reader as Tokens;
-use serde_json::Value;
 use std::alloc::Global;
 use std::collections::BTreeMap;
-
-/// The value that the next tokens spell, with at most so many levels. Its numbers are whole.
-pub(crate) fn next_value(
-    alloc: Global,
-    tokens: &mut Tokens<'_>,
-    levels: usize,
-) -> Result<Value, Unread>
-    ensures value { IfOk result
-        (λ v. converted of_json (value levels tokens.old) ≡ Some (view v, tokens.new)) }
-    ensures whole { IfOk result (λ v. IsWhole (view v)) }
-    ensures shorter { OnOk result (length tokens.new < length tokens.old) }
-{
-    let tree = match next_tree(alloc, tokens, levels) {
-        Ok(tree) => tree,
-        Err(refusal) => return Err(no_tree(refusal)),
-    };
-    Ok(to_value(alloc, &tree)?)
-}
 
 /// The shapes of the states up to the end of the object, with at most so many levels.
 pub(crate) fn next_states(
@@ -53,8 +30,13 @@ pub(crate) fn next_states(
         match tokens.next_key() {
             Ok(Some(name)) => {
                 let name = String::from_str(reader.alloc, name)?;
-                let value = next_value(reader.alloc, tokens, levels)?;
-                match read_state(reader, shapes, &name, value) {
+                let tree = match next_tree(reader.alloc, tokens, levels) {
+                    Ok(tree) => tree,
+                    Err(refusal) => return Err(no_tree(refusal)),
+                };
+                let read = read_state(reader, shapes, &name, &tree);
+                drop(tree);
+                match read {
                     Ok(state) => drop(states.insert(name, state)?),
                     Err(fault) => return Err(no_part(fault)),
                 }
@@ -80,14 +62,19 @@ pub(crate) fn next_listed(
 {
     let mut numbers = Vec::new(alloc);
     'listed: while !tokens.take_end_array() {
-        let value = next_value(alloc, tokens, levels)?;
+        let tree = match next_tree(alloc, tokens, levels) {
+            Ok(tree) => tree,
+            Err(refusal) => return Err(no_tree(refusal)),
+        };
         let record = Reader {
             alloc,
             name: "",
             several,
             listed: Some(&numbers),
         };
-        match record.read_number(shapes, "shapes", value) {
+        let read = record.read_number(shapes, "shapes", &tree);
+        drop(tree);
+        match read {
             Ok(number) => numbers.push(number)?,
             Err(fault) => return Err(no_part(fault)),
         }

@@ -4,16 +4,16 @@ ghost use Rattle.asl_model.specs.Shape.{Shape};
 ghost use Rattle.asl_numbered.specs.Expansion.{AreBelow, Keeps};
 ghost use Rattle.asl_streams.specs.Fielded.{ReadsField, ReadsFields};
 
-use crate::entries::{next_listed, next_states, next_value};
-use crate::unread::Unread;
+use crate::entries::{next_listed, next_states};
+use crate::unread::{Unread, no_tree};
 use asl_numbered::Shapes;
 use asl_records::{Reader, StateNumbers};
+use asl_tree::{Tree, next_tree};
 use json::{Reader as Tokens, Token};
-use serde_json::Value;
 use std::alloc::Global;
 use std::collections::BTreeMap;
 
-/// How many levels the value of a field may have, and how many a listed shape or the entry of a state.
+/// How many levels the tree of a field may have, and how many a listed shape or the entry of a state.
 const FIELD_LEVELS: usize = 126;
 
 const PART_LEVELS: usize = 125;
@@ -21,14 +21,14 @@ const PART_LEVELS: usize = 125;
 /// The fields of a certificate that have been read.
 #[derive(Drop)]
 pub(crate) struct Fields {
-    pub(crate) version: Option<Value>,
+    pub(crate) version: Option<Tree>,
     pub(crate) listed: Option<Vec<usize>>,
-    pub(crate) output: Option<Value>,
+    pub(crate) output: Option<Tree>,
     pub(crate) states: Option<BTreeMap<String, StateNumbers>>,
 }
 
 impl Fields {
-    /// Reads the value of the field of that name; the last one of a name stays. A list of shapes is read in front of the states
+    /// Reads the tree of the field of that name; the last one of a name stays. A list of shapes is read in front of the states
     /// alone, in which references mean it.
     fn read_next(
         &mut self,
@@ -59,8 +59,13 @@ impl Fields {
             self.old self.new) }
         ensures shorter { OnOk result (length tokens.new < length tokens.old) }
     {
-        self.version = Some(next_value(alloc, tokens, FIELD_LEVELS)?);
-        Ok(())
+        match next_tree(alloc, tokens, FIELD_LEVELS) {
+            Ok(tree) => {
+                self.version = Some(tree);
+                Ok(())
+            }
+            Err(refusal) => Err(no_tree(refusal)),
+        }
     }
 
     fn read_output(&mut self, alloc: Global, tokens: &mut Tokens<'_>) -> Result<(), Unread>
@@ -69,8 +74,13 @@ impl Fields {
             self.old self.new) }
         ensures shorter { OnOk result (length tokens.new < length tokens.old) }
     {
-        self.output = Some(next_value(alloc, tokens, FIELD_LEVELS)?);
-        Ok(())
+        match next_tree(alloc, tokens, FIELD_LEVELS) {
+            Ok(tree) => {
+                self.output = Some(tree);
+                Ok(())
+            }
+            Err(refusal) => Err(no_tree(refusal)),
+        }
     }
 
     fn read_shapes(

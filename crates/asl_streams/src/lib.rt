@@ -1,4 +1,4 @@
-//! Certificates read from the tokens of their texts (RFC 8259), entry by entry: no JSON value of the whole text stands in
+//! Certificates read from the tokens of their texts (RFC 8259), entry by entry: no tree of the whole text stands in
 //! memory, but those of the output's shape and of one state's entry, or one listed shape, at a time.
 #![tactic(auto)]
 

@@ -24,7 +24,7 @@ impl<E: WantOfMemory + Drop> From<E> for Unread {
     }
 }
 
-/// Why the next value isn't read.
+/// Why the next tree isn't read.
 pub(crate) fn no_tree(refusal: TreeRefusal) -> Unread {
     match refusal {
         TreeRefusal::NotJson | TreeRefusal::NotWhole => Unread::Whole,
@@ -35,7 +35,7 @@ pub(crate) fn no_tree(refusal: TreeRefusal) -> Unread {
 /// Why a part isn't read.
 pub(crate) fn no_part(fault: ReadFault) -> Unread {
     match fault {
-        ReadFault::NotWhole | ReadFault::Record(_) => Unread::Whole,
+        ReadFault::Record(_) => Unread::Whole,
         ReadFault::OutOfMemory => Unread::OutOfMemory,
     }
 }

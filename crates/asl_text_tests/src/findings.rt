@@ -1,7 +1,7 @@
 //! All broken rules of a certificate, in the order in which the checker goes over them.
 use asl_check::{Located, Verdict, find_all, read_declared, read_numbered};
 use asl_tool::verdict_text;
-use asl_tree::read_value;
+use asl_tree::{read, read_value};
 use std::alloc::Global;
 use std::process::Abort;
 
@@ -20,16 +20,16 @@ fn all_lines(
     certificate: &str,
 ) -> String {
     let definition = read_value(alloc, definition.as_bytes()).expect(rt, "a value");
-    let declared = read_value(alloc, declared.as_bytes()).expect(rt, "a value");
-    let certificate = read_value(alloc, certificate.as_bytes()).expect(rt, "a value");
+    let declared = read(alloc, declared.as_bytes()).expect(rt, "a tree");
+    let certificate = read(alloc, certificate.as_bytes()).expect(rt, "a tree");
     let machine = asl_machine::read(alloc, &definition)
         .ok()
         .expect(rt, "a machine");
-    let declared = read_declared(alloc, declared)
+    let declared = read_declared(alloc, &declared)
         .ok()
         .expect(rt, "declared shapes");
-    let read = read_numbered(alloc, certificate);
-    let mut certificate = read.ok().expect(rt, "a certificate");
+    let certificate = read_numbered(alloc, &certificate);
+    let mut certificate = certificate.ok().expect(rt, "a certificate");
     let findings = find_all(alloc, &machine, &declared, &mut certificate);
     let mut lines = String::new(alloc);
     for located in findings.ok().expect(rt, "memory") {

@@ -17,6 +17,7 @@ use Rattle.asl_records.specs.declared.refusals.ReadFault.{ReadFault}
 use Rattle.asl_records.specs.declared.refusals.ReadFault.TheVariants as kept
 use Rattle.asl_tree.specs.declared.TreeRefusal.{TreeRefusal}
 use Rattle.asl_tree.specs.declared.TreeRefusal.TheVariants as tree
+use Rattle.asl_texts.specs.Runs.{RefusesTree, tree_no_json, tree_not_whole, tree_no_memory}
 use Rattle.asl_texts.specs.View.{which_view, text_fault_view, tree_refusal_view}
 use Rattle.asl_texts.specs.declared.refusals.TextRefusal.{TextRefusal}
 use Rattle.asl_texts.specs.Verifying.{IsRefusedAs, UnreadableStands, no_json, unread, record_fault_of, RefusesDefinition, definition_fault, definition_no_memory, RefusesDeclared, declared_fault, declared_no_memory, RefusesCertificate, certificate_fault, certificate_no_memory, IsRefused, fault_stands, definition_unread, declared_unread, certificate_unread}
@@ -42,21 +43,23 @@ unread-definition text (BadRecord c) x = elim x [ ]
 unread-definition text (BadAnswer n) x = elim x [ ]
 unread-definition text NoMemory unread = definition_no_memory
 
-pub unread-declared : (text : List ℕ) (f : TextFault) → UnreadableStands text f → RefusesDeclared text f
-unread-declared text NotJson (no_json h) = declared_fault (declared_no_json h)
-unread-declared text NotWhole x = elim x [ ]
-unread-declared text (BadDefinition c) x = elim x [ ]
-unread-declared text (BadRecord c) x = elim x [ ]
-unread-declared text (BadAnswer n) x = elim x [ ]
-unread-declared text NoMemory unread = declared_no_memory
+-- ---- a text that gives no tree
 
-pub unread-certificate : (text : List ℕ) (f : TextFault) → UnreadableStands text f → RefusesCertificate text f
-unread-certificate text NotJson (no_json h) = certificate_fault (certificate_no_json h)
-unread-certificate text NotWhole x = elim x [ ]
-unread-certificate text (BadDefinition c) x = elim x [ ]
-unread-certificate text (BadRecord c) x = elim x [ ]
-unread-certificate text (BadAnswer n) x = elim x [ ]
-unread-certificate text NoMemory unread = certificate_no_memory
+pub no_tree-declared : (text : List ℕ) (f : TextFault) → RefusesTree text f → RefusesDeclared text f
+no_tree-declared text NotJson (tree_no_json h) = declared_fault (declared_no_json h)
+no_tree-declared text NotWhole (tree_not_whole reads none) = declared_fault (declared_not_whole reads none)
+no_tree-declared text (BadDefinition c) x = elim x [ ]
+no_tree-declared text (BadRecord c) x = elim x [ ]
+no_tree-declared text (BadAnswer n) x = elim x [ ]
+no_tree-declared text NoMemory tree_no_memory = declared_no_memory
+
+pub no_tree-certificate : (text : List ℕ) (f : TextFault) → RefusesTree text f → RefusesCertificate text f
+no_tree-certificate text NotJson (tree_no_json h) = certificate_fault (certificate_no_json h)
+no_tree-certificate text NotWhole (tree_not_whole reads none) = certificate_fault (certificate_not_whole reads none)
+no_tree-certificate text (BadDefinition c) x = elim x [ ]
+no_tree-certificate text (BadRecord c) x = elim x [ ]
+no_tree-certificate text (BadAnswer n) x = elim x [ ]
+no_tree-certificate text NoMemory tree_no_memory = certificate_no_memory
 
 -- ---- a value that is refused
 
@@ -65,12 +68,10 @@ refused-definition text v None reads without_memory = definition_no_memory
 refused-definition text v (Some c) reads (for_broken_rule h) = definition_fault (definition_complaint reads h)
 
 pub refused-declared : (text : List ℕ) (v : Data) (fault : ReadFault) → ReadsAsValue text v → IsDeclaredRefusal v fault → RefusesDeclared text (record_fault_of fault)
-refused-declared text v kept.NotWhole reads h = declared_fault (declared_not_whole reads h)
 refused-declared text v (kept.Record refusal) reads h = rw h.1 (declared_fault (declared_complaint reads h.2))
 refused-declared text v kept.OutOfMemory reads h = declared_no_memory
 
 pub refused-certificate : (text : List ℕ) (v : Data) (fault : ReadFault) → ReadsAsValue text v → IsCertificateRefusal v fault → RefusesCertificate text (record_fault_of fault)
-refused-certificate text v kept.NotWhole reads h = certificate_fault (certificate_not_whole reads h)
 refused-certificate text v (kept.Record refusal) reads h = rw h.1 (certificate_fault (certificate_complaint reads h.2))
 refused-certificate text v kept.OutOfMemory reads h = certificate_no_memory
 

@@ -3,7 +3,7 @@ use Rattle.std.specs.Prelude.{◌≡◌, ℕ, List, Option, option_map, ⊤}
 use Rattle.std.specs.Option.{unwrap_or}
 use Rattle.asl_model.specs.Machine.{Scope}
 use Rattle.asl_model.specs.Certificate.{Declared}
-use Rattle.asl_model.specs.Texts.{Which, DefinitionText, DeclaredText, CertificateText, TextFault, NotJson, NotWhole, BadRecord, NoMemory, IsNoJson, IsDefinitionFault, IsDeclaredFault, IsCertificateFault, IsRefusal, ReadsAsMachine, ReadsAsDeclared}
+use Rattle.asl_model.specs.Texts.{Which, DefinitionText, DeclaredText, CertificateText, TextFault, NotJson, BadRecord, NoMemory, IsNoJson, IsDefinitionFault, IsDeclaredFault, IsCertificateFault, IsRefusal, ReadsAsMachine, ReadsAsDeclared}
 use Rattle.asl_states.specs.Table.{Shows}
 use Rattle.asl_states.specs.declared.machine.Machine.{Machine}
 use Rattle.asl_records.specs.View.{complaint_view}
@@ -20,9 +20,8 @@ pub data UnreadableStands (text : List ℕ) : TextFault → Type 0 where
   no_json : IsNoJson text → UnreadableStands text NotJson
   unread : UnreadableStands text NoMemory
 
--- what is told of a value that is no record
+-- what is told of a tree that is no record
 abbrev pub record_fault_of : ReadFault → TextFault
-record_fault_of kept.NotWhole = NotWhole
 record_fault_of (kept.Record refusal) = unwrap_or (option_map BadRecord (complaint_view refusal)) NoMemory
 record_fault_of kept.OutOfMemory = NoMemory
 

@@ -47,8 +47,8 @@ pub(crate) fn declared_text(alloc: Global, text: &[u8]) -> Result<Declared, Text
     ensures refused { IfErr result (IsRefusedAs DeclaredText (RefusesDeclared text.now)) }
 {
     let which = Which::Declared;
-    let value = json_value(alloc, which, text)?;
-    match read_declared(alloc, value) {
+    let tree = tree_text(alloc, which, text)?;
+    match read_declared(alloc, &tree) {
         Ok(declared) => Ok(declared),
         Err(fault) => Err(TextRefusal {
             which,
@@ -71,8 +71,8 @@ pub(crate) fn certificate_text(
         return Ok(certificate);
     }
     let which = Which::Certificate;
-    let value = json_value(alloc, which, text)?;
-    match read_numbered(alloc, value) {
+    let tree = tree_text(alloc, which, text)?;
+    match read_numbered(alloc, &tree) {
         Ok(certificate) => Ok(certificate),
         Err(fault) => Err(TextRefusal {
             which,
@@ -104,7 +104,7 @@ fn streamed_certificate(
     }
 }
 
-/// The tree that a text reads as, which is that of an input or of answers.
+/// The tree that a text reads as.
 pub(crate) fn tree_text(alloc: Global, which: Which, text: &[u8]) -> Result<Tree, TextRefusal>
     ensures tree { IfOk result (λ tree. ReadsAsTree text.now (view tree)) }
     ensures refused { IfErr result (IsRefusedAs (which_view which) (RefusesTree text.now)) }
@@ -174,7 +174,6 @@ fn record_fault(fault: ReadFault) -> TextFault
     ensures { text_fault_view result ≡ record_fault_of fault }
 {
     match fault {
-        ReadFault::NotWhole => TextFault::Tree(TreeRefusal::NotWhole),
         ReadFault::Record(refusal) => TextFault::Record(refusal),
         ReadFault::OutOfMemory => TextFault::OutOfMemory,
     }

@@ -90,7 +90,7 @@ with_member : (k : List ℕ) (j : json.Json) (d : Data) (found : Members) (o : O
 with_member k j d found None e = refl
 with_member k j d found (Some p) e = rw e
 
-put_among : (k : List ℕ) (d : Data) (t : model.Tree) (found : Members) (fs : model.Fields) → tree_of d ≡ Some t → members_of found ≡ Some fs → members_of (values.put k d found) ≡ Some (put k t fs)
+pub put_among : (k : List ℕ) (d : Data) (t : model.Tree) (found : Members) (fs : model.Fields) → tree_of d ≡ Some t → members_of found ≡ Some fs → members_of (values.put k d found) ≡ Some (put k t fs)
 put_among k d t values.no_members fs e h = let none : model.NoFields ≡ fs = cc in rw e (ap (λ gs. Some (put k t gs)) none)
 put_among k d t (values.member l c ms) fs e h =
     let u = there (λ u. option_map (model.AndField l u) (members_of ms)) (tree_of c) fs h in

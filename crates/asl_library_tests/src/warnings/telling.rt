@@ -1,7 +1,7 @@
 //! What is told of a machine, in one text.
 use crate::given::machine;
 use asl_records::read_numbered;
-use asl_tree::read_value;
+use asl_tree::read;
 use asl_warnings::{Notice, notices};
 use std::alloc::Global;
 use std::process::Abort;
@@ -21,8 +21,8 @@ pub(crate) fn told_by_data(
     certificate: &str,
 ) -> String {
     let machine = machine(rt, alloc, definition);
-    let certificate = read_value(alloc, certificate.as_bytes()).expect(rt, "a value");
-    let Ok(mut certificate) = read_numbered(alloc, certificate) else {
+    let certificate = read(alloc, certificate.as_bytes()).expect(rt, "a tree");
+    let Ok(mut certificate) = read_numbered(alloc, &certificate) else {
         return String::from_str(alloc, "no certificate").expect(rt, "memory");
     };
     let told = notices(alloc, &machine, Some(&mut certificate)).expect(rt, "memory");

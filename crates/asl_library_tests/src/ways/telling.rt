@@ -8,7 +8,7 @@ use crate::ways::machines::Given;
 use asl_records::{Declared, NumberedCertificate, read_numbered};
 use asl_shape::Shape;
 use asl_states::Machine;
-use asl_tree::{OutOfMemory, read_value};
+use asl_tree::{OutOfMemory, read};
 use asl_ways::{Arrival, Exit, Origin, Visit, arrivals, visits, way_to};
 use std::alloc::Global;
 use std::process::Abort;
@@ -33,8 +33,8 @@ pub(crate) fn read_records(
 {
     let machine = machine(rt, alloc, definition);
     let declared = crate::given::declared(rt, alloc, declared);
-    let certificate = read_value(alloc, certificate.as_bytes()).expect(rt, "a value");
-    match read_numbered(alloc, certificate) {
+    let certificate = read(alloc, certificate.as_bytes()).expect(rt, "a tree");
+    match read_numbered(alloc, &certificate) {
         Ok(certificate) => Ok(Records {
             machine,
             declared,

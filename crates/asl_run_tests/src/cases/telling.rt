@@ -92,8 +92,8 @@ pub(crate) fn told_declared(
     declared: &str,
     suite: &str,
 ) -> String {
-    let value = read_value(alloc, declared.as_bytes()).expect(rt, "a value");
-    let declared = read_declared(alloc, value)
+    let tree = read(alloc, declared.as_bytes()).expect(rt, "a tree");
+    let declared = read_declared(alloc, &tree)
         .ok()
         .expect(rt, "declared shapes");
     told_with(rt, alloc, definition, Some(&declared), suite, MOST_STEPS)

@@ -5,7 +5,7 @@ use Rattle.std.proofs.lemmas.Result.{err_from_is_err_and}
 use Rattle.std.specs.List.Sorted.{IsStrictlySortedBy}
 use Rattle.std.specs.Map.{keys_of}
 use Rattle.std.specs.String.{string_cmp}
-use Rattle.serde_json.specs.declared.value.Value.{Value}
+use Rattle.asl_tree.specs.declared.Tree.{Tree}
 use Rattle.asl_shape.specs.LevelView.{level_view, list_view, object_view, texts}
 use Rattle.asl_shape.specs.Spelled as trees
 use Rattle.asl_shape.proofs.Sizes.{level_size, list_size, smaller, element_smaller, member_smaller}
@@ -25,20 +25,20 @@ pub read-returns-in-Some-Some-clause-number : goal.read-returns-in-Some-Some-cla
 read-returns-in-Some-Some-clause-number t c =
     let table = c.args.table.now in
     let given = c.args.given in
-    let tree = trees.view c.args.value.now in
+    let tree = trees.view c.args.tree.now in
     let is = sym c.referred.ensures ∙ c.in-Some-Some.is ∙ ap Some c.in-Some-Some.field-0-is in
     subst (IsRead c.args.several (shapes_given (expansions table) given) tree (expansions table)) (sym c.in-Some-Some.number-is) (reference_read c.args.several table given tree c.in-Some-Some.number c.requires is)
 
 pub read-returns-in-Some-None-clause-refused : goal.read-returns-in-Some-None-clause-refused
 read-returns-in-Some-None-clause-refused t c =
-    reference_told c.args.several (expansions c.args.table.now) c.args.given (trees.view c.args.value.now) (sym c.referred.ensures ∙ c.in-Some-None.is ∙ ap Some c.in-Some-None.field-0-is)
+    reference_told c.args.several (expansions c.args.table.now) c.args.given (trees.view c.args.tree.now) (sym c.referred.ensures ∙ c.in-Some-None.is ∙ ap Some c.in-Some-None.field-0-is)
 
 -- ---- the level of a spelling
 
 pub read_spelling-returns-in_err-level-clause-refused : goal.read_spelling-returns-in_err-level-clause-refused
 read_spelling-returns-in_err-level-clause-refused t c =
     let p = err_from_is_err_and c.from_residual.result c.from_residual.ensures.1 in
-    rw (p.1, p.2) (level_told c.args.several (expansions c.args.table.now) c.args.given (trees.view c.args.value.now) c.in_err-level.field-0.0 c.requires.spelled c.in_err-level.ensures.refused)
+    rw (p.1, p.2) (level_told c.args.several (expansions c.args.table.now) c.args.given (trees.view c.args.tree.now) c.in_err-level.field-0.0 c.requires.spelled c.in_err-level.ensures.refused)
 
 pub read_spelling-read_over-requires : goal.read_spelling-read_over-requires
 read_spelling-read_over-requires t c = (omega (arith, smaller _ _ _ c.in_ok-level.ensures.level), c.requires.given)
@@ -99,7 +99,7 @@ read_list-read_rest-requires t c =
 pub read_list-returns-in_err-rest-clause-refused : goal.read_list-returns-in_err-rest-clause-refused
 read_list-returns-in_err-rest-clause-refused t c =
     let first = each_of (trees.elements_view c.in-Some.list.first.now) in
-    let rest = option_to_list (trees.value_there c.in-Some.list.rest) in
+    let rest = option_to_list (trees.tree_there c.in-Some.list.rest) in
     let e = c.in_err-rest.field-0.0 in
     let same = given_same c.args.table.now c.read_elements.new.table c.args.given c.in_ok-first.ensures.keeps c.requires in
     let p = err_from_is_err_and c.from_residual-in_err-rest.result c.from_residual-in_err-rest.ensures.1 in
@@ -108,13 +108,13 @@ read_list-returns-in_err-rest-clause-refused t c =
 pub read_list-put-requires-clause-refers : goal.read_list-put-requires-clause-refers
 read_list-put-requires-clause-refers t c =
     let same = given_same c.args.table.now c.read_elements.new.table c.args.given c.in_ok-first.ensures.keeps c.requires in
-    let rest = subst (λ given. IsReadRest c.args.several given (trees.value_there c.in-Some.list.rest) (expansions c.read_rest.new.table) c.in_ok-rest.rest) same c.in_ok-rest.ensures.number in
-    list_refers c.args.several (shapes_given (expansions c.args.table.now) c.args.given) (trees.elements_view c.in-Some.list.first.now) (trees.value_there c.in-Some.list.rest) c.read_elements.new.table c.read_rest.new.table c.in_ok-first.first c.in_ok-rest.rest c.in_ok-rest.ensures.keeps c.in_ok-first.ensures.numbers rest
+    let rest = subst (λ given. IsReadRest c.args.several given (trees.tree_there c.in-Some.list.rest) (expansions c.read_rest.new.table) c.in_ok-rest.rest) same c.in_ok-rest.ensures.number in
+    list_refers c.args.several (shapes_given (expansions c.args.table.now) c.args.given) (trees.elements_view c.in-Some.list.first.now) (trees.tree_there c.in-Some.list.rest) c.read_elements.new.table c.read_rest.new.table c.in_ok-first.first c.in_ok-rest.rest c.in_ok-rest.ensures.keeps c.in_ok-first.ensures.numbers rest
 
 pub read_list-returns-clause-number : goal.read_list-returns-clause-number
 read_list-returns-clause-number t c =
     let same = given_same c.args.table.now c.read_elements.new.table c.args.given c.in_ok-first.ensures.keeps c.requires in
-    let rest = subst (λ given. IsReadRest c.args.several given (trees.value_there c.in-Some.list.rest) (expansions c.read_rest.new.table) c.in_ok-rest.rest) same c.in_ok-rest.ensures.number in
+    let rest = subst (λ given. IsReadRest c.args.several given (trees.tree_there c.in-Some.list.rest) (expansions c.read_rest.new.table) c.in_ok-rest.rest) same c.in_ok-rest.ensures.number in
     rw c.in-Some.is (list_read c.args.several (shapes_given (expansions c.args.table.now) c.args.given) (list_view c.in-Some.list) _ _ _ c.in_ok-first.first c.in_ok-rest.rest _ c.in_ok-rest.ensures.keeps c.in_ok-first.ensures.numbers rest c.in_ok-put.ensures.number)
 
 pub read_rest-returns-in_ok-put-in-None-clause-number : goal.read_rest-returns-in_ok-put-in-None-clause-number
@@ -123,7 +123,7 @@ read_rest-returns-in_ok-put-in-None-clause-number t c =
 
 pub read_rest-returns-in-Some-clause-number : goal.read_rest-returns-in-Some-clause-number
 read_rest-returns-in-Some-clause-number t c =
-    rw c.in-Some.is (rest_answer c.args.several _ (trees.view c.in-Some.value.now) _ c.read.result c.read.ensures.number)
+    rw c.in-Some.is (rest_answer c.args.several _ (trees.view c.in-Some.tree.now) _ c.read.result c.read.ensures.number)
 
 pub read_elements-loop-element-init : goal.read_elements-loop-element-init
 read_elements-loop-element-init t c =
@@ -172,14 +172,14 @@ read_members-loop-name-init t c =
 
 pub read_members-read-requires : goal.read_members-read-requires
 read_members-read-requires t c =
-    let e : String Global × Value = (c.in-Some.name.now, c.in-Some.member.now) in
+    let e : String Global × Tree = (c.in-Some.name.now, c.in-Some.member.now) in
     let l = c.loop-name in
     (omega (arith, member_smaller c.args.members.now.entries l.invariant.0 l.name-iterator c.next.new.self e l.invariant.1 c.in-Some.ensures.steps), given_kept _ _ (numbers_given c.args.given) l.invariant.2 c.requires)
 
 pub read_members-returns-in_err-shape-clause-refused :
     goal.read_members-returns-in_err-shape-clause-refused
 read_members-returns-in_err-shape-clause-refused t c =
-    let m : String Global × Value = (c.in-Some.name.now, c.in-Some.member.now) in
+    let m : String Global × Tree = (c.in-Some.name.now, c.in-Some.member.now) in
     let l = c.loop-name in
     let members = c.args.members.now.entries in
     let e = c.in_err-shape.field-0.0 in
@@ -191,7 +191,7 @@ pub read_members-loop-name-preserved : goal.read_members-loop-name-preserved
 read_members-loop-name-preserved t c =
     let l = c.loop-name in
     let done = l.invariant.0 in
-    let m : String Global × Value = (c.in-Some.name.now, c.in-Some.member.now) in
+    let m : String Global × Tree = (c.in-Some.name.now, c.in-Some.member.now) in
     let left = c.next.new.self in
     let all : c.args.members.now.entries ≡ done ++ m ∷ left = l.invariant.1 ∙ ap (λ ms. done ++ ms) c.in-Some.ensures.steps in
     let sorted = subst (λ ms. IsStrictlySortedBy string_cmp (keys_of ms)) all c.iter-name-items.ensures.ordered in

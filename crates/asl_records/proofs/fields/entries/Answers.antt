@@ -1,9 +1,7 @@
 use Rattle.std.proofs.Common.{refl}
 use Rattle.asl_model.specs.Records.{WrongKind}
-use Rattle.asl_records.proofs.Members.{no_object}
+use Rattle.asl_records.proofs.OtherKinds.{other_object}
 use Rattle.asl_records.proofs.fields.entries.Goals as goal
 
-pub returns : goal.returns
-returns c =
-    let none = no_object c.args.value c.in-Null.is in
-    record { members = tt; whole = tt; refused = rw none (c.record.ensures WrongKind refl) }
+pub returns-in-Null-clause-refused : goal.returns-in-Null-clause-refused
+returns-in-Null-clause-refused c = record { each = λ v is. rw (other_object c.args.tree.now c.in-Null.is v is) (c.record.ensures WrongKind refl) }

@@ -6,7 +6,7 @@ use Rattle.std.specs.String.{string_cmp}
 use Rattle.std.proofs.lemmas.Grind.{common_steps}
 use Rattle.std.proofs.lemmas.List.{take_all}
 use Rattle.std.proofs.lemmas.Result.{err_from_is_err_and}
-use Rattle.serde_json.specs.declared.value.Value.{Value}
+use Rattle.asl_tree.specs.declared.Tree.{Tree}
 use Rattle.asl_shape.specs.declared.shape.Shape.TheViews.{roll-Field}
 use Rattle.asl_shape.specs.Level.{SpelledOver, list_inner_faults, object_inner_faults}
 use Rattle.asl_shape.specs.LevelView.{level_view, list_view, object_view}
@@ -48,7 +48,7 @@ read_elements-returns-in_err-read_spelling-clause-refused t c =
 
 pub read_members-returns-in_err-shape-clause-refused : goal.read_members-returns-in_err-shape-clause-refused
 read_members-returns-in_err-shape-clause-refused t c =
-    let e : String Global × Value = (c.in-Some.name.now, c.in-Some.member.now) in
+    let e : String Global × Tree = (c.in-Some.name.now, c.in-Some.member.now) in
     let p = err_from_is_err_and c.from_residual-in_err-shape.result c.from_residual-in_err-shape.ensures.1 in
     rw (p.1, p.2) (member_told c.args.several c.in_err-shape.field-0.0 c.args.members.now.entries c.loop-name.name-iterator c.next.new.self e c.loop-name.invariant.0 c.in-Some.ensures.steps c.in_err-shape.ensures.refused)
 
@@ -56,7 +56,7 @@ pub read_members-loop-name-preserved : goal.read_members-loop-name-preserved
 read_members-loop-name-preserved t c =
     let l = c.loop-name in
     let done = l.invariant.1.0 in
-    let e : String Global × Value = (c.in-Some.name.now, c.in-Some.member.now) in
+    let e : String Global × Tree = (c.in-Some.name.now, c.in-Some.member.now) in
     let left = c.next.new.self in
     let all : c.args.members.now.entries ≡ done ++ e ∷ left = l.invariant.1.1 ∙ ap (λ es. done ++ es) c.in-Some.ensures.steps in
     let sorted = subst (λ es. IsStrictlySortedBy string_cmp (keys_of es)) all c.iter-name-items.ensures.ordered in
@@ -74,7 +74,7 @@ read_members-loop-name-preserved t c =
 pub read_spelling-returns-in_err-arrays-in-Kinds-clause-refused :
     goal.read_spelling-returns-in_err-arrays-in-Kinds-clause-refused
 read_spelling-returns-in_err-arrays-in-Kinds-clause-refused t c =
-    let over = subst (λ level. SpelledOver c.args.several (trees.view c.args.value.now) (level_view level)) c.in-Kinds.is c.in_ok-read_level.ensures.level in
+    let over = subst (λ level. SpelledOver c.args.several (trees.view c.args.tree.now) (level_view level)) c.in-Kinds.is c.in_ok-read_level.ensures.level in
     let p = err_from_is_err_and c.from_residual-in_err-arrays-in-Kinds.result c.from_residual-in_err-arrays-in-Kinds.ensures.1 in
     let e = c.in_err-arrays-in-Kinds.field-0.0 in
     rw (p.1, p.2) (told_same e _ _ (told_left e (list_inner_faults c.args.several (option_map list_view c.in-Kinds.list)) (object_inner_faults c.args.several (option_map object_view c.in-Kinds.object)) c.in_err-arrays-in-Kinds.ensures.refused) (sym over.faults))
@@ -83,12 +83,12 @@ read_spelling-returns-in_err-arrays-in-Kinds-clause-refused t c =
 
 pub read_spelling-read_list-requires : goal.read_spelling-read_list-requires
 read_spelling-read_list-requires t c =
-    let over = subst (λ level. SpelledOver c.args.several (trees.view c.args.value.now) (level_view level)) c.in-Kinds.is c.in_ok-read_level.ensures.level in
+    let over = subst (λ level. SpelledOver c.args.several (trees.view c.args.tree.now) (level_view level)) c.in-Kinds.is c.in_ok-read_level.ensures.level in
     (omega (arith, smaller _ _ _ over), tt)
 
 pub read_spelling-read_object-requires : goal.read_spelling-read_object-requires
 read_spelling-read_object-requires t c =
-    let over = subst (λ level. SpelledOver c.args.several (trees.view c.args.value.now) (level_view level)) c.in-Kinds.is c.in_ok-read_level.ensures.level in
+    let over = subst (λ level. SpelledOver c.args.several (trees.view c.args.tree.now) (level_view level)) c.in-Kinds.is c.in_ok-read_level.ensures.level in
     (omega (arith, smaller _ _ _ over), tt)
 
 pub read_elements-read_spelling-requires : goal.read_elements-read_spelling-requires
@@ -101,6 +101,6 @@ read_elements-read_spelling-requires t c =
 
 pub read_members-read_spelling-requires : goal.read_members-read_spelling-requires
 read_members-read_spelling-requires t c =
-    let e : String Global × Value = (c.in-Some.name.now, c.in-Some.member.now) in
+    let e : String Global × Tree = (c.in-Some.name.now, c.in-Some.member.now) in
     let l = c.loop-name in
     (omega (arith, member_smaller c.args.members.now.entries l.invariant.1.0 l.name-iterator c.next.new.self e l.invariant.1.1 c.in-Some.ensures.steps), tt)

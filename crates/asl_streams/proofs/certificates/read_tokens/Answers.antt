@@ -1,23 +1,12 @@
-use Rattle.std.proofs.Common.{◌≡◌, ◌∷◌, [], arith, sym, ◌∙◌, subst, None, codes}
+use Rattle.std.proofs.Common.{◌≡◌, ◌∷◌, [], arith, sym, ◌∙◌, subst, None}
 use Rattle.std.proofs.lemmas.Result.{IfOk-weaker}
 use Rattle.json.specs.Lex.{tokens}
 use Rattle.json.specs.Token.{Token}
 use Rattle.serde_json.specs.Data.{object}
-use Rattle.asl_records.proofs.Numbers.{found_whole}
 use Rattle.asl_streams.proofs.Fielded.{whole_read}
 use Rattle.asl_streams.proofs.PutFields.{none_read}
 use Rattle.asl_streams.specs.Streamed.{SpellMembers}
 use Rattle.asl_streams.proofs.certificates.read_tokens.Goals as goal
-
-pub certificate_of-requires-clause-version : goal.certificate_of-requires-clause-version
-certificate_of-requires-clause-version c =
-    let read = c.in_ok-fields.ensures in
-    found_whole read.found (codes "version") c.in_ok-fields.fields.version read.are.whole (sym read.are.version)
-
-pub certificate_of-requires-clause-output : goal.certificate_of-requires-clause-output
-certificate_of-requires-clause-output c =
-    let read = c.in_ok-fields.ensures in
-    found_whole read.found (codes "output") c.in_ok-fields.fields.output read.are.whole (sym read.are.output)
 
 pub returns-clause-certificate : goal.returns-clause-certificate
 returns-clause-certificate c =

@@ -1,16 +1,22 @@
 use Rattle.std.proofs.Common.{refl, sym, subst}
 use Rattle.std.proofs.lemmas.Result.{err_from_is_err_and}
-use Rattle.serde_json.specs.View.{view}
 use Rattle.asl_texts.specs.View.{text_fault_view}
 use Rattle.asl_texts.specs.Verifying.{RefusesDeclared}
-use Rattle.asl_texts.proofs.RefusedTexts.{unread-declared, refused-declared}
+use Rattle.asl_texts.proofs.RefusedTexts.{no_tree-declared, refused-declared}
 use Rattle.asl_texts.proofs.reading.declared_text.Goals as goal
 
-pub returns-in_err-value-clause-refused : goal.returns-in_err-value-clause-refused
-returns-in_err-value-clause-refused c =
+pub returns-in_err-tree-clause-refused : goal.returns-in_err-tree-clause-refused
+returns-in_err-tree-clause-refused c =
     let p = err_from_is_err_and c.from_residual.result c.from_residual.ensures.1 in
-    let refused = c.in_err-value.ensures.refused in
-    rw (p.1, p.2) (refused.0, unread-declared c.args.text.now (text_fault_view c.in_err-value.field-0.0.fault) refused.1)
+    let refused = c.in_err-tree.ensures.refused in
+    rw (p.1, p.2) (refused.0, no_tree-declared c.args.text.now (text_fault_view c.in_err-tree.field-0.0.fault) refused.1)
 
-pub returns-in-Err-clause-refused : goal.returns-in-Err-clause-refused
-returns-in-Err-clause-refused c = (refl, subst (RefusesDeclared c.args.text.now) (sym c.record_fault.ensures) (refused-declared c.args.text.now (view c.in_ok-value.value) c.in-Err.fault c.in_ok-value.ensures.value c.in-Err.ensures.refused))
+pub returns-in-Ok-clause-declared : goal.returns-in-Ok-clause-declared
+returns-in-Ok-clause-declared c =
+    let tree = c.in_ok-tree.ensures.tree in
+    record { value = tree.0; reads = tree.1; stands = c.in-Ok.ensures.declared.each tree.0 tree.2 }
+
+pub returns-clause-refused : goal.returns-clause-refused
+returns-clause-refused c =
+    let tree = c.in_ok-tree.ensures.tree in
+    (refl, subst (RefusesDeclared c.args.text.now) (sym c.record_fault.ensures) (refused-declared c.args.text.now tree.0 c.in-Err.fault tree.1 (c.in-Err.ensures.refused.each tree.0 tree.2)))

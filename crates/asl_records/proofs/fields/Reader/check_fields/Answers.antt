@@ -1,15 +1,21 @@
-use Rattle.std.proofs.Common.{string_bytes, ap, refl, ◌∙◌, rules}
-use Rattle.std.proofs.Common.{map}
-use Rattle.serde_json.specs.View.{view, members_view}
+use Rattle.std.proofs.Common.{map, refl, rules}
 use Rattle.asl_model.specs.Records.{UnknownField}
-use Rattle.asl_records.specs.Parts.{foreign_complaints}
-use Rattle.asl_records.proofs.Members.{Member, foreign_told}
+use Rattle.asl_records.proofs.Entries.{Stated}
+use Rattle.asl_records.proofs.ForeignFields.{begun, gone_on, foreign_told, none_wrong}
 use Rattle.asl_records.proofs.fields.Reader.check_fields.Goals as goal
+
+pub loop-field-init : goal.loop-field-init
+loop-field-init c = begun c.args.self.now.name.now (map (λ field. field.now) c.args.known.now) c.args.fields.now.entries _ (search rules)
+
+pub loop-field-preserved : goal.loop-field-preserved
+loop-field-preserved c =
+    let e : Stated = (c.in-Some.field.now, c.in-Some.field-0-1.now) in
+    gone_on c.args.self.now.name.now (map (λ field. field.now) c.args.known.now) c.args.fields.now.entries c.loop-field.field-iterator c.next.new.self e c.loop-field.invariant c.in-Some.ensures.steps (search rules)
 
 pub returns-then-not-is_known-clause-refused : goal.returns-then-not-is_known-clause-refused
 returns-then-not-is_known-clause-refused c =
-    let known = map (λ field. field.now) c.args.known.now in
-    let e : Member = (c.in-Some.field.now, c.in-Some.field-0-1.now) in
-    let left = c.next.new.self in
-    let all = c.loop-field.invariant ∙ ap (λ es. foreign_complaints c.args.self.now.name.now known (members_view es)) c.in-Some.ensures.steps in
-    foreign_told c.args.self.now.name.now known (string_bytes e.0) c.deref-then-not-is_known.result.now (view e.1) (members_view left) _ _ all (search rules) (search rules) (c.refuse.ensures UnknownField refl)
+    let e : Stated = (c.in-Some.field.now, c.in-Some.field-0-1.now) in
+    foreign_told c.args.self.now.name.now (map (λ field. field.now) c.args.known.now) c.args.fields.now.entries c.loop-field.field-iterator c.next.new.self e c.deref-then-not-is_known.result.now c.refuse.result c.loop-field.invariant c.in-Some.ensures.steps (search rules) (search rules) (c.refuse.ensures UnknownField refl)
+
+pub returns-clause-right : goal.returns-clause-right
+returns-clause-right c = none_wrong c.args.self.now.name.now (map (λ field. field.now) c.args.known.now) c.args.fields.now.entries c.loop-field.field-iterator c.loop-field.invariant c.in-None.ensures.steps.0

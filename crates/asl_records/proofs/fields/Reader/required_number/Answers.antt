@@ -1,10 +1,27 @@
-use Rattle.std.proofs.Common.{◌≡◌, None, refl, rules}
-use Rattle.serde_json.specs.Find.{get_member}
-use Rattle.serde_json.specs.View.{members_view}
+use Rattle.std.proofs.Common.{true, refl, sym, ap, ◌∙◌}
+use Rattle.std.proofs.lemmas.Result.{IfErr-weaker, IfOk-weaker, on_ok_weaker}
 use Rattle.asl_model.specs.Records.{MissingField}
+use Rattle.asl_shape.specs.Spelled.{tree_there}
+use Rattle.asl_tree.specs.View.{view}
+use Rattle.asl_records.proofs.FieldParts.{right_there, told_there, number_given, missing_told}
 use Rattle.asl_records.proofs.fields.Reader.required_number.Goals as goal
+
+pub returns-in-Some-clause-right : goal.returns-in-Some-clause-right
+returns-in-Some-clause-right c =
+    let stands = sym (ap tree_there c.in-Some.is) ∙ c.stated.ensures in
+    on_ok_weaker c.read_number.result (λ h. record { each = λ reading means. right_there reading c.args.self.now.name.now c.args.field.now true (view c.in-Some.tree.now) _ stands (h.each reading means) }) c.read_number.ensures.right
+
+pub returns-in-Some-clause-number : goal.returns-in-Some-clause-number
+returns-in-Some-clause-number c =
+    let stands = sym (ap tree_there c.in-Some.is) ∙ c.stated.ensures in
+    IfOk-weaker c.read_number.result _ _ (λ n h. record { each = λ reading means. number_given reading.listed (view c.in-Some.tree.now) _ c.read_number.new.shapes n stands (h.each reading means) }) c.read_number.ensures.number
+
+pub returns-in-Some-clause-refused : goal.returns-in-Some-clause-refused
+returns-in-Some-clause-refused c =
+    let stands = sym (ap tree_there c.in-Some.is) ∙ c.stated.ensures in
+    IfErr-weaker c.read_number.result _ _ (λ f h. record { each = λ reading means. told_there reading c.args.self.now.name.now c.args.field.now true (view c.in-Some.tree.now) _ f stands (h.each reading means) }) c.read_number.ensures.refused
 
 pub returns-in-None-clause-refused : goal.returns-in-None-clause-refused
 returns-in-None-clause-refused c =
-    let none : get_member c.args.field.now (members_view c.args.fields.now.entries) ≡ None = search rules in
-    rw none (record { each = λ reading means. c.refuse.ensures MissingField refl })
+    let stands = sym (ap tree_there c.in-None.is) ∙ c.stated.ensures in
+    record { each = λ reading means. missing_told reading c.args.self.now.name.now c.args.field.now _ _ stands (c.refuse.ensures MissingField refl) }

@@ -1,10 +1,28 @@
-use Rattle.std.proofs.Common.{◌≡◌, None, refl, rules}
-use Rattle.serde_json.specs.Find.{get_member}
-use Rattle.serde_json.specs.View.{members_view}
+use Rattle.std.proofs.Common.{None, true, refl, sym, ap, ◌∙◌}
+use Rattle.std.proofs.lemmas.Result.{IfErr-weaker, IfOk-weaker, on_ok_weaker}
+use Rattle.asl_model.specs.Records.{declared_reading}
+use Rattle.asl_shape.specs.Spelled.{tree_there}
+use Rattle.asl_tree.specs.View.{view}
 use Rattle.asl_model.specs.Records.{MissingField}
+use Rattle.asl_records.proofs.FieldParts.{right_there, told_there, shape_read, missing_told}
 use Rattle.asl_records.proofs.fields.Reader.required_shape.Goals as goal
+
+pub returns-in-Some-clause-right : goal.returns-in-Some-clause-right
+returns-in-Some-clause-right c =
+    let stands = sym (ap tree_there c.in-Some.is) ∙ c.stated.ensures in
+    on_ok_weaker c.read_shape.result (right_there declared_reading c.args.self.now.name.now c.args.field.now true (view c.in-Some.tree.now) _ stands) c.read_shape.ensures.right
+
+pub returns-in-Some-clause-shape : goal.returns-in-Some-clause-shape
+returns-in-Some-clause-shape c =
+    let stands = sym (ap tree_there c.in-Some.is) ∙ c.stated.ensures in
+    IfOk-weaker c.read_shape.result _ _ (λ s. shape_read None (view c.in-Some.tree.now) _ _ stands) c.read_shape.ensures.shape
+
+pub returns-in-Some-clause-refused : goal.returns-in-Some-clause-refused
+returns-in-Some-clause-refused c =
+    let stands = sym (ap tree_there c.in-Some.is) ∙ c.stated.ensures in
+    IfErr-weaker c.read_shape.result _ _ (λ f. told_there declared_reading c.args.self.now.name.now c.args.field.now true (view c.in-Some.tree.now) _ f stands) c.read_shape.ensures.refused
 
 pub returns-in-None-clause-refused : goal.returns-in-None-clause-refused
 returns-in-None-clause-refused c =
-    let none : get_member c.args.field.now (members_view c.args.fields.now.entries) ≡ None = search rules in
-    rw none (c.refuse.ensures MissingField refl)
+    let stands = sym (ap tree_there c.in-None.is) ∙ c.stated.ensures in
+    missing_told declared_reading c.args.self.now.name.now c.args.field.now _ _ stands (c.refuse.ensures MissingField refl)

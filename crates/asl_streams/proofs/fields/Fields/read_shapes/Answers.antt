@@ -1,7 +1,8 @@
 use Rattle.std.proofs.Common.{◌≡◌, ◌∷◌, length, sym, ap, ◌∙◌, arith, refl}
 use Rattle.json.specs.Token.{Token}
 use Rattle.serde_json.specs.Data.{array}
-use Rattle.asl_streams.proofs.Opened.{array_opened, whole_array}
+use Rattle.asl_model.specs.Tree.{Array}
+use Rattle.asl_streams.proofs.Opened.{array_opened, array_tree}
 use Rattle.asl_streams.proofs.PutFields.{none_read, shapes_put}
 use Rattle.asl_streams.proofs.fields.Fields.read_shapes.Goals as goal
 
@@ -13,7 +14,7 @@ returns-clause-read c =
     record {
       value = array read.found;
       spelled = array_opened 126 c.args.tokens.now c.next.new.self c.next_listed.new.tokens read.found (omega arith) opened read.spelled;
-      are = λ found are. shapes_put c.args.several found c.args.self.now c.args.shapes.now c.next_listed.new.shapes (array read.found) c.in_ok-next_listed.field-0 unstated (whole_array read.found read.whole)
+      are = λ found are. shapes_put c.args.several found c.args.self.now c.args.shapes.now c.next_listed.new.shapes (array read.found) (Array read.elements) c.in_ok-next_listed.field-0 unstated (array_tree read.found read.elements read.whole)
           (record { found = read.found; is = refl; right = read.right; meant = read.meant; below = read.below }) are;
     }
 

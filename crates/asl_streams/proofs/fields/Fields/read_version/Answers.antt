@@ -1,9 +1,11 @@
-use Rattle.serde_json.specs.View.{view}
+use Rattle.json.specs.Json.{value}
+use Rattle.asl_tree.specs.View.{view}
 use Rattle.asl_streams.proofs.PutFields.{version_put}
+use Rattle.asl_streams.proofs.Values.{value_spelled}
 use Rattle.asl_streams.proofs.fields.Fields.read_version.Goals as goal
 
-pub returns-clause-read : goal.returns-clause-read
-returns-clause-read c = λ several table.
-    let value = c.in_ok-next_value.field-0 in
-    let read = c.in_ok-next_value.ensures in
-    record { value = view value; spelled = read.value; are = λ found are. version_put several found c.args.self.now table value read.whole are }
+pub returns-in-Ok-clause-read : goal.returns-in-Ok-clause-read
+returns-in-Ok-clause-read c = λ several table.
+    let tree = c.in-Ok.tree in
+    let read = value_spelled (value 126 c.args.tokens.now) (view tree) c.next_tree.new.reader c.in-Ok.ensures.tree in
+    record { value = read.value; spelled = read.read; are = λ found are. version_put several found c.args.self.now table tree read.value read.is are }
