@@ -1,5 +1,5 @@
 -- The tree that a value is, and the one by which it is read.
-use Rattle.std.proofs.Common.{◌≡◌, ◌^◌, ℕ, pos, negsuc, Bool, true, false, if◌then◌else◌, cond, nat_lt, is_some, List, [], ◌∷◌, String, Global, string_bytes, bytes_eq, Option, Some, None, option_map, option_and_then, unwrap_or, Result, Ok, Err, refl, sym, ap, subst, ◌∙◌}
+use Rattle.std.proofs.Common.{◌≡◌, ◌^◌, ℕ, pos, Bool, true, false, if◌then◌else◌, cond, nat_lt, is_some, List, [], ◌∷◌, String, Global, string_bytes, bytes_eq, Option, Some, None, option_map, option_and_then, unwrap_or, Result, Ok, Err, refl, sym, ap, subst, ◌∙◌}
 use Rattle.std.specs.Prelude.{IfOk}
 use Rattle.std.specs.BTreeMap.{is_at}
 use Rattle.std.specs.Cmp.Lexicographic.{slice_cmp}
@@ -11,7 +11,7 @@ use Rattle.serde_json.specs.Data as json
 use Rattle.serde_json.specs.Data.{Data, Num, Items, Members, unsigned, negative, float}
 use Rattle.serde_json.specs.Find.{as_i64, as_integer}
 use Rattle.serde_json.specs.declared.value.Value.{Value}
-use Rattle.asl_model.specs.Json.{tree_of, elements_of, members_of, value_of, items_of, members_for}
+use Rattle.asl_model.specs.Json.{tree_of, elements_of, members_of}
 use Rattle.asl_model.specs.Tree.{Tree, Null, Boolean, Integer, Text, Array, Object, Trees, NoTrees, AndTree, Fields, NoFields, AndField, field_named}
 use Rattle.asl_tree.specs.Values.{IsTreeWith, whole, whole_elements, whole_fields, tree_in, fields_in}
 
@@ -64,25 +64,6 @@ mutual
 -- the tree that it is
 pub whole-tree_of : (v : Data) (t : Tree) → tree_of v ≡ Some t → whole v ≡ t
 whole-tree_of v t h = let is : Some (whole v) ≡ Some t = sym (tree_there v (ap is_some h)) ∙ h in cc
-
-mutual
-  -- the value that a tree is is read by that tree
-  pub whole-value_of : (t : Tree) → whole (value_of t) ≡ t
-  whole-value_of Null = refl
-  whole-value_of (Boolean b) = refl
-  whole-value_of (Integer (pos n)) = refl
-  whole-value_of (Integer (negsuc n)) = refl
-  whole-value_of (Text s) = refl
-  whole-value_of (Array ts) = ap Array (whole_elements-items_of ts)
-  whole-value_of (Object fs) = ap Object (whole_fields-members_for fs)
-
-  whole_elements-items_of : (ts : Trees) → whole_elements (items_of ts) ≡ ts
-  whole_elements-items_of NoTrees = refl
-  whole_elements-items_of (AndTree t ts) = rw (whole-value_of t, whole_elements-items_of ts) refl
-
-  whole_fields-members_for : (fs : Fields) → whole_fields (members_for fs) ≡ fs
-  whole_fields-members_for NoFields = refl
-  whole_fields-members_for (AndField n t fs) = rw (whole-value_of t, whole_fields-members_for fs) refl
 
 -- ---- what holds of the tree that a value is
 
