@@ -5,10 +5,9 @@ use Rattle.std.proofs.lemmas.List.Elements.{Contains-append_left, Contains-appen
 use Rattle.serde_json.specs.Data as json
 use Rattle.serde_json.specs.Data.{Data, Members}
 use Rattle.serde_json.specs.Find.{as_object, get_member}
-use Rattle.asl_model.specs.Tree.{Tree, Fields, field_named}
+use Rattle.asl_model.specs.Tree.{Tree}
 use Rattle.asl_model.specs.Records.{Reading, RecordComplaint, certificate_reading, certificate_rows, state_rows, listed_complaints, listed_from, listed_in, entries_complaints, members_in, members_under}
 use Rattle.asl_records.specs.Parts.{TellsOneOf, certified, field_complaints, foreign_complaints, is_number, listed_row, reading_of, shape_row, entries_row, version_row, members_there, shape_there, states_there, trees_there, unlisted}
-use Rattle.asl_records.specs.Values.{AreMembers, Gives, IsPart}
 use Rattle.asl_records.specs.declared.refusals.ReadFault.{ReadFault}
 use Rattle.asl_numbered.specs.Expansion.{IsNumberOf, Keeps}
 use Rattle.asl_model.specs.Shape.{Shape}
@@ -21,7 +20,6 @@ use Rattle.asl_records.specs.declared.records.NumberedCertificate.{NumberedCerti
 use Rattle.asl_records.proofs.Meant.{IsLent, kept_items, lent_meant}
 use Rattle.asl_records.proofs.Objects.{names_of, parts, shown}
 use Rattle.asl_records.proofs.Telling.{told_all, told_same}
-use Rattle.asl_records.proofs.Values.{part_there}
 
 -- ---- what references don't change
 
@@ -119,14 +117,11 @@ module _ (reading : Reading) where
   stands_for v ms is = rw is refl
 
 -- what was read of the output and of the states makes the certificate, in a table that grew between
-pub numbered_for : (listed : Option (List Tree)) (one : List Shape) (numbered : NumberedCertificate) (fs : Fields) (ms : Members) → Gives (IsPart (field_named (codes "output") fs)) (shape_there listed) (λ shape. IsNumberOf one shape numbered.output) → Keeps one numbered.shapes
-    → Gives (IsPart (field_named (codes "states") fs)) (states_there listed) (λ all. AreStatesOf numbered.shapes all numbered.states.entries) → AreMembers fs ms → numbered_view numbered ≡ certified listed ms
-numbered_for listed one numbered fs ms output keeps states are =
-    let number = output.holds in
-    let below : numbered.output < length one = number.within in
-    let shape = output.same (get_member (codes "output") ms) (part_there (codes "output") fs ms are) in
-    let all = states.same (get_member (codes "states") ms) (part_there (codes "states") fs ms are) in
-    rw (kept_shape one numbered.shapes numbered.output keeps below, number.same, states.holds.same, shape, all) refl
+pub numbered_for : (listed : Option (List Tree)) (one : List Shape) (numbered : NumberedCertificate) (ms : Members) → IsNumberOf one (shape_there listed (get_member (codes "output") ms)) numbered.output → Keeps one numbered.shapes
+    → AreStatesOf numbered.shapes (states_there listed (get_member (codes "states") ms)) numbered.states.entries → numbered_view numbered ≡ certified listed ms
+numbered_for listed one numbered ms output keeps states =
+    let below : numbered.output < length one = output.within in
+    rw (kept_shape one numbered.shapes numbered.output keeps below, output.same, states.same) refl
 
 -- ---- how its shapes are read
 
@@ -135,8 +130,8 @@ pub is_its_reading : (several : Bool) (v : Data) (ms : Members) → as_object v 
 is_its_reading several v ms is version = rw (version, is) refl
 
 -- the numbers of its list mean its trees
-pub reading_meant : (several : Bool) (table : List Shape) (kept : Option (Vec ℕ Global)) (lent : Option (Bor (List ℕ))) (v : Data) (ms : Members) (trees : Option (List Tree)) → as_object v ≡ Some ms → trees_there (get_member (codes "shapes") ms) ≡ trees
-    → IsLent kept lent → IsReading several table (kept_items kept) (reading_of several trees) → IsReading several table (numbers_given lent) (reading_of several (listed_in (members_in v)))
-reading_meant several table kept lent v ms trees is there lends means =
-    let same : trees ≡ listed_in (members_in v) = sym there ∙ ap listed_in (sym (ap (λ o. unwrap_or o json.no_members) is)) in
+pub reading_meant : (several : Bool) (table : List Shape) (kept : Option (Vec ℕ Global)) (lent : Option (Bor (List ℕ))) (v : Data) (ms : Members) → as_object v ≡ Some ms
+    → IsLent kept lent → IsReading several table (kept_items kept) (reading_of several (trees_there (get_member (codes "shapes") ms))) → IsReading several table (numbers_given lent) (reading_of several (listed_in (members_in v)))
+reading_meant several table kept lent v ms is lends means =
+    let same : trees_there (get_member (codes "shapes") ms) ≡ listed_in (members_in v) = ap listed_in (sym (ap (λ o. unwrap_or o json.no_members) is)) in
     lent_meant several table kept lent (reading_of several (listed_in (members_in v))) lends (subst (λ ts. IsReading several table (kept_items kept) (reading_of several ts)) same means)

@@ -1,100 +1,96 @@
--- What is wrong with a field that should have a shape, or shapes, and what stands there, by the tree that does.
-use Rattle.std.proofs.Common.{◌≡◌, ℕ, List, [], ◌∷◌, Bool, true, false, map, Option, Some, None, option_map, refl, sym, ap, ◌∙◌, subst}
+-- The fields of a record and of its entries, by the trees that stand in them.
+use Rattle.std.proofs.Common.{◌≡◌, ℕ, ℤ, List, [], ◌∷◌, ◌++◌, Bool, true, false, map, Option, Some, None, option_map, String, Vec, BTreeMap, Global, string_bytes, ◌⊎◌, inl, inr, refl, sym, ap, ◌∙◌, subst, rules}
 use Rattle.serde_json.specs.Data.{Data}
-use Rattle.asl_model.specs.Records.{Reading, MissingField, ShapesValue, misfits, shape_from}
-use Rattle.asl_model.specs.Shape.{Shape}
-use Rattle.asl_model.specs.Tree.{Tree}
-use Rattle.asl_numbered.specs.Expansion.{IsNumberOf}
-use Rattle.asl_records.specs.Numbering.{AreListOf, IsItemOf}
-use Rattle.asl_records.specs.Parts.{TellsOneOf, complaint_of, field_complaints, shape_row, shapes_row, shape_there, shapes_there, tree_complaints, tree_shape}
-use Rattle.asl_records.specs.Values.{For, Gives, IsPart, IsValue}
+use Rattle.serde_json.specs.Find.{as_array, as_number, as_object}
+use Rattle.asl_model.specs.Records.{Reading, RecordComplaint, RecordRow, EntriesValue, UnknownField, declared_reading, entries_complaints, misfits, shape_from}
+use Rattle.asl_model.specs.ShapeSpelling.{is_among}
+use Rattle.asl_model.specs.Tree as model
+use Rattle.asl_tree.specs.View.{view}
+use Rattle.asl_tree.specs.declared.Tree.{Tree, the_lemmas}
+use Rattle.asl_tree.specs.declared.Tree as tree
+use Rattle.asl_records.specs.Parts.{TellsOneOf, complaint_of, entries_row, field_complaints, foreign_complaints, members_there, shape_row, shape_there, tree_complaints, tree_shape}
+use Rattle.asl_records.specs.Values.{as_members, as_value}
 use Rattle.asl_records.specs.declared.refusals.ReadFault.{ReadFault}
-use Rattle.asl_records.proofs.Numberings.{item_numbered, none_listed}
-use Rattle.asl_records.proofs.Telling.{told_same}
-use Rattle.asl_records.proofs.Values.{no_part, some_part}
+use Rattle.asl_records.proofs.Entries.{Stated, members}
+use Rattle.asl_records.proofs.Signed.{tree_of-value}
+use Rattle.asl_records.proofs.Telling.{told_left, told_same}
 
--- ---- a tree
+-- ---- kinds
 
-complaints_there : (reading : Reading) (name field : List ℕ) (required : Bool) (t : Tree) (part : Option Data) → IsPart (Some t) part → field_complaints reading name (shape_row field required) part ≡ tree_complaints reading name field t
-complaints_there reading name field required t part is = let some = some_part t part is in rw (some.1, some.2) refl
+-- the tree is of a kind other than objects
+abbrev pub IsNoObject : Tree → Type 0
+IsNoObject t = (t ≡ tree.Null) ⊎ (((b : Bool) × (t ≡ tree.Bool b)) ⊎ (((n : ℤ) × (t ≡ tree.Int n)) ⊎ (((s : String Global) × (t ≡ tree.Text s)) ⊎ ((ts : Vec Tree Global) × (t ≡ tree.List ts)))))
 
-shape_is : (listed : Option (List Tree)) (t : Tree) (part : Option Data) → IsPart (Some t) part → shape_there listed part ≡ tree_shape listed t
-shape_is listed t part is = let some = some_part t part is in rw (some.1, some.2) refl
+-- and then its value is no object
+pub no_object : (t : Tree) → IsNoObject t → as_object (as_value (view t)) ≡ None
+no_object t (inl e) = rw e (search (rules, the_lemmas))
+no_object t (inr (inl (b, e))) = rw e (search (rules, the_lemmas))
+no_object t (inr (inr (inl (n, e)))) = rw e (search (rules, the_lemmas))
+no_object t (inr (inr (inr (inl (s, e))))) = rw e (search (rules, the_lemmas))
+no_object t (inr (inr (inr (inr (ts, e))))) = rw e (search (rules, the_lemmas))
 
-item_is : (listed : Option (List Tree)) (t : Tree) (part : Option Data) → IsPart (Some t) part → option_map (shape_from listed) part ≡ Some (tree_shape listed t)
-item_is listed t part is = let some = some_part t part is in rw (some.1, some.2) refl
+-- the tree is of a kind other than lists
+abbrev pub IsNoList : Tree → Type 0
+IsNoList t = (t ≡ tree.Null) ⊎ (((b : Bool) × (t ≡ tree.Bool b)) ⊎ (((n : ℤ) × (t ≡ tree.Int n)) ⊎ (((s : String Global) × (t ≡ tree.Text s)) ⊎ ((es : BTreeMap (String Global) Tree) × (t ≡ tree.Object es)))))
 
--- of a field, where the tree stands in it
-pub right_there : (reading : Reading) (name field : List ℕ) (required : Bool) (t : Tree) (o : Option Tree) → Some t ≡ o → tree_complaints reading name field t ≡ [] → For (IsPart o) (λ part. field_complaints reading name (shape_row field required) part ≡ [])
-right_there reading name field required t o stands right =
-    subst (λ o. For (IsPart o) (λ part. field_complaints reading name (shape_row field required) part ≡ [])) stands
-    (record { each = λ part is. complaints_there reading name field required t part is ∙ right })
+-- and then its value is no array
+pub no_array : (t : Tree) → IsNoList t → as_array (as_value (view t)) ≡ None
+no_array t (inl e) = rw e (search (rules, the_lemmas))
+no_array t (inr (inl (b, e))) = rw e (search (rules, the_lemmas))
+no_array t (inr (inr (inl (n, e)))) = rw e (search (rules, the_lemmas))
+no_array t (inr (inr (inr (inl (s, e))))) = rw e (search (rules, the_lemmas))
+no_array t (inr (inr (inr (inr (es, e))))) = rw e (search (rules, the_lemmas))
 
-pub told_there : (reading : Reading) (name field : List ℕ) (required : Bool) (t : Tree) (o : Option Tree) (fault : ReadFault) → Some t ≡ o → TellsOneOf (tree_complaints reading name field t) fault → For (IsPart o) (λ part. TellsOneOf (field_complaints reading name (shape_row field required) part) fault)
-told_there reading name field required t o fault stands told =
-    subst (λ o. For (IsPart o) (λ part. TellsOneOf (field_complaints reading name (shape_row field required) part) fault)) stands
-    (record { each = λ part is. told_same fault _ _ told (sym (complaints_there reading name field required t part is)) })
+-- the tree is of a kind other than integers
+abbrev pub IsNoInteger : Tree → Type 0
+IsNoInteger t = (t ≡ tree.Null) ⊎ (((b : Bool) × (t ≡ tree.Bool b)) ⊎ (((s : String Global) × (t ≡ tree.Text s)) ⊎ (((ts : Vec Tree Global) × (t ≡ tree.List ts)) ⊎ ((es : BTreeMap (String Global) Tree) × (t ≡ tree.Object es)))))
 
-pub shape_read : (listed : Option (List Tree)) (t : Tree) (o : Option Tree) (s : Shape) → Some t ≡ o → s ≡ tree_shape listed t → For (IsPart o) (λ part. s ≡ shape_there listed part)
-shape_read listed t o s stands same =
-    subst (λ o. For (IsPart o) (λ part. s ≡ shape_there listed part)) stands (record { each = λ part is. same ∙ sym (shape_is listed t part is) })
+-- and then its value is no number
+pub no_number : (t : Tree) → IsNoInteger t → as_number (as_value (view t)) ≡ None
+no_number t (inl e) = rw e (search (rules, the_lemmas))
+no_number t (inr (inl (b, e))) = rw e (search (rules, the_lemmas))
+no_number t (inr (inr (inl (s, e)))) = rw e (search (rules, the_lemmas))
+no_number t (inr (inr (inr (inl (ts, e))))) = rw e (search (rules, the_lemmas))
+no_number t (inr (inr (inr (inr (es, e))))) = rw e (search (rules, the_lemmas))
 
-pub item_read : (listed : Option (List Tree)) (t : Tree) (o : Option Tree) (s : Shape) → Some t ≡ o → s ≡ tree_shape listed t → For (IsPart o) (λ part. Some s ≡ option_map (shape_from listed) part)
-item_read listed t o s stands same =
-    subst (λ o. For (IsPart o) (λ part. Some s ≡ option_map (shape_from listed) part)) stands (record { each = λ part is. ap Some same ∙ sym (item_is listed t part is) })
+-- ---- fields that aren't known
 
-pub number_given : (listed : Option (List Tree)) (t : Tree) (o : Option Tree) (table : List Shape) (n : ℕ) → Some t ≡ o → IsNumberOf table (tree_shape listed t) n → Gives (IsPart o) (shape_there listed) (λ shape. IsNumberOf table shape n)
-number_given listed t o table n stands number =
-    subst (λ o. Gives (IsPart o) (shape_there listed) (λ shape. IsNumberOf table shape n)) stands (record { one = tree_shape listed t; same = shape_is listed t; holds = number })
+-- one that is known is passed over
+pub known_on : (name : List ℕ) (known : List (List ℕ)) (all left rest : List Stated) (e : Stated) → foreign_complaints name known (members all) ≡ foreign_complaints name known (members left) → left ≡ e ∷ rest → is_among (string_bytes e.0) known ≡ true → foreign_complaints name known (members all) ≡ foreign_complaints name known (members rest)
+known_on name known all left rest e same split among = same ∙ ap (λ ms. foreign_complaints name known (members ms)) split ∙ (rw among refl)
 
-pub item_given : (listed : Option (List Tree)) (t : Tree) (o : Option Tree) (table : List Shape) (n : ℕ) → Some t ≡ o → IsNumberOf table (tree_shape listed t) n → Gives (IsPart o) (option_map (shape_from listed)) (λ shape. IsItemOf table shape (Some n))
-item_given listed t o table n stands number =
-    subst (λ o. Gives (IsPart o) (option_map (shape_from listed)) (λ shape. IsItemOf table shape (Some n))) stands (record { one = Some (tree_shape listed t); same = item_is listed t; holds = item_numbered table (tree_shape listed t) n number })
+-- one that isn't is told as the first of those left
+pub foreign_told : (name : List ℕ) (known : List (List ℕ)) (all left rest : List Stated) (e : Stated) (m : List ℕ) (f : ReadFault) → foreign_complaints name known (members all) ≡ foreign_complaints name known (members left) → left ≡ e ∷ rest → is_among (string_bytes e.0) known ≡ false → m ≡ string_bytes e.0
+    → TellsOneOf (complaint_of name m UnknownField ∷ []) f → TellsOneOf (foreign_complaints name known (members all)) f
+foreign_told name known all left rest e m f same split none at told =
+    let first : foreign_complaints name known (members all) ≡ complaint_of name (string_bytes e.0) UnknownField ∷ foreign_complaints name known (members rest) = same ∙ ap (λ ms. foreign_complaints name known (members ms)) split ∙ (rw none refl) in
+    told_same f _ _ (told_left f (complaint_of name (string_bytes e.0) UnknownField ∷ []) (foreign_complaints name known (members rest)) (subst (λ n. TellsOneOf (complaint_of name n UnknownField ∷ []) f) at told)) (sym first)
 
--- ---- no tree
+-- ---- a shape in a field
 
-pub missing_told : (reading : Reading) (name field : List ℕ) (o : Option Tree) (fault : ReadFault) → None ≡ o → TellsOneOf (complaint_of name field MissingField ∷ []) fault → For (IsPart o) (λ part. TellsOneOf (field_complaints reading name (shape_row field true) part) fault)
-missing_told reading name field o fault stands told =
-    subst (λ o. For (IsPart o) (λ part. TellsOneOf (field_complaints reading name (shape_row field true) part) fault)) stands
-    (record { each = λ part is. rw (no_part part is) told })
+pub complaints_there : (reading : Reading) (name field : List ℕ) (required : Bool) (t : model.Tree) (part : Option Data) → Some (as_value t) ≡ part → field_complaints reading name (shape_row field required) part ≡ tree_complaints reading name field t
+complaints_there reading name field required t part stands = rw (sym stands, tree_of-value t) refl
 
-pub absent_right : (reading : Reading) (name field : List ℕ) (o : Option Tree) → None ≡ o → For (IsPart o) (λ part. field_complaints reading name (shape_row field false) part ≡ [])
-absent_right reading name field o stands =
-    subst (λ o. For (IsPart o) (λ part. field_complaints reading name (shape_row field false) part ≡ [])) stands (record { each = λ part is. rw (no_part part is) refl })
+pub shape_is : (listed : Option (List model.Tree)) (t : model.Tree) (part : Option Data) → Some (as_value t) ≡ part → shape_there listed part ≡ tree_shape listed t
+shape_is listed t part stands = rw (sym stands, tree_of-value t) refl
 
-pub no_item_read : (listed : Option (List Tree)) (o : Option Tree) (none : Option Shape) → None ≡ o → none ≡ None → For (IsPart o) (λ part. none ≡ option_map (shape_from listed) part)
-no_item_read listed o none stands is_none =
-    subst (λ o. For (IsPart o) (λ part. none ≡ option_map (shape_from listed) part)) stands (record { each = λ part is. rw (no_part part is) is_none })
+pub item_is : (listed : Option (List model.Tree)) (t : model.Tree) (part : Option Data) → Some (as_value t) ≡ part → option_map (shape_from listed) part ≡ Some (tree_shape listed t)
+item_is listed t part stands = rw (sym stands, tree_of-value t) refl
 
-pub no_item_given : (listed : Option (List Tree)) (o : Option Tree) (table : List Shape) → None ≡ o → Gives (IsPart o) (option_map (shape_from listed)) (λ shape. IsItemOf table shape None)
-no_item_given listed o table stands =
-    subst (λ o. Gives (IsPart o) (option_map (shape_from listed)) (λ shape. IsItemOf table shape None)) stands
-    (record { one = None; same = λ part is. ap (option_map (shape_from listed)) (no_part part is); holds = record { below = tt; same = refl } })
+-- ---- entries in a field
 
--- ---- a list of shapes
+module _ (reading : Reading) (field : List ℕ) (required : Bool) (rows : List RecordRow) where
+  -- with the field, and with each entry
+  abbrev of_entries : Option Data → List RecordComplaint
+  of_entries part = field_complaints reading [] (entries_row field required) part ++ entries_complaints reading rows (members_there part)
 
--- of a field, where the tree stands in it
-pub list_right : (reading : Reading) (name field : List ℕ) (t : Tree) (o : Option Tree) → Some t ≡ o → For (IsValue t) (λ v. map (complaint_of name field) (misfits reading ShapesValue v) ≡ []) → For (IsPart o) (λ part. field_complaints reading name (shapes_row field) part ≡ [])
-list_right reading name field t o stands right =
-    subst (λ o. For (IsPart o) (λ part. field_complaints reading name (shapes_row field) part ≡ [])) stands
-    (record { each = λ part is. let some = some_part t part is in rw some.1 (right.each some.0 some.2) })
+  pub entries_there : (t : model.Tree) (fs : model.Fields) (part : Option Data) → Some (as_value t) ≡ part → t ≡ model.Object fs → of_entries part ≡ entries_complaints reading rows (as_members fs)
+  entries_there t fs part stands shown = rw (sym stands, shown) refl
 
-pub list_told : (reading : Reading) (name field : List ℕ) (t : Tree) (o : Option Tree) (fault : ReadFault) → Some t ≡ o → For (IsValue t) (λ v. TellsOneOf (map (complaint_of name field) (misfits reading ShapesValue v)) fault) → For (IsPart o) (λ part. TellsOneOf (field_complaints reading name (shapes_row field) part) fault)
-list_told reading name field t o fault stands told =
-    subst (λ o. For (IsPart o) (λ part. TellsOneOf (field_complaints reading name (shapes_row field) part) fault)) stands
-    (record { each = λ part is. let some = some_part t part is in rw some.1 (told.each some.0 some.2) })
+  -- where it is no object
+  pub kind_told : (v : Data) (part : Option Data) (fault : ReadFault) → Some v ≡ part → TellsOneOf (map (complaint_of [] field) (misfits declared_reading EntriesValue v)) fault → TellsOneOf (of_entries part) fault
+  kind_told v part fault stands told = subst (λ p. TellsOneOf (of_entries p) fault) stands (told_left fault (map (complaint_of [] field) (misfits declared_reading EntriesValue v)) (entries_complaints reading rows (members_there (Some v))) told)
 
-pub list_given : (listed : Option (List Tree)) (t : Tree) (o : Option Tree) (table : List Shape) (ns : List ℕ) → Some t ≡ o → Gives (IsValue t) (λ v. shapes_there listed (Some v)) (λ all. AreListOf table all ns) → Gives (IsPart o) (shapes_there listed) (λ all. AreListOf table all ns)
-list_given listed t o table ns stands h =
-    subst (λ o. Gives (IsPart o) (shapes_there listed) (λ all. AreListOf table all ns)) stands
-    (record { one = h.one; same = λ part is. let some = some_part t part is in ap (shapes_there listed) some.1 ∙ h.same some.0 some.2; holds = h.holds })
-
--- where none does
-pub no_list_right : (reading : Reading) (name field : List ℕ) (o : Option Tree) → None ≡ o → For (IsPart o) (λ part. field_complaints reading name (shapes_row field) part ≡ [])
-no_list_right reading name field o stands =
-    subst (λ o. For (IsPart o) (λ part. field_complaints reading name (shapes_row field) part ≡ [])) stands (record { each = λ part is. rw (no_part part is) refl })
-
-pub no_list_given : (listed : Option (List Tree)) (o : Option Tree) (table : List Shape) (ns : List ℕ) → None ≡ o → ns ≡ [] → Gives (IsPart o) (shapes_there listed) (λ all. AreListOf table all ns)
-no_list_given listed o table ns stands none =
-    subst (λ o. Gives (IsPart o) (shapes_there listed) (λ all. AreListOf table all ns)) stands
-    (record { one = []; same = λ part is. ap (shapes_there listed) (no_part part is); holds = subst (AreListOf table []) (sym none) (none_listed table) })
+-- what stands there
+pub members_are : (t : model.Tree) (fs : model.Fields) (part : Option Data) → Some (as_value t) ≡ part → t ≡ model.Object fs → members_there part ≡ as_members fs
+members_are t fs part stands shown = rw (sym stands, shown) refl

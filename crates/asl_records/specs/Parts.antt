@@ -10,7 +10,7 @@ use Rattle.asl_model.specs.Shape.{Shape, Any}
 use Rattle.asl_model.specs.ShapeSpelling.{is_among, shape_of}
 use Rattle.asl_model.specs.Tree.{Tree}
 use Rattle.asl_model.specs.Certificate as model
-use Rattle.asl_model.specs.Records.{Reading, RecordFault, UnknownField, BadShape, BadNumber, RecordComplaint, RecordRow, ShapeValue, ShapesValue, ListedValue, EntriesValue, VersionValue, record_row_faults, members_in, plain, shape_from, shapes_from, shapes_misfits, tree_misfits, listed_after, listed_misfits, state_rows, state_from, entries_complaints, entries_from}
+use Rattle.asl_model.specs.Records.{Reading, RecordFault, UnknownField, BadShape, BadNumber, RecordComplaint, RecordRow, ShapeValue, ShapesValue, ListedValue, EntriesValue, VersionValue, record_row_faults, members_in, plain, shape_from, shapes_from, shapes_misfits, tree_misfits, listed_after, listed_misfits, declared_reading, task_rows, state_rows, state_from, entries_complaints, entries_from}
 use Rattle.asl_shape.specs.Refusal.{fault_named}
 use Rattle.asl_numbered.specs.declared.NumberedRefusal.{NumberedRefusal}
 use Rattle.asl_numbered.specs.declared.NumberedRefusal.TheVariants as numbered
@@ -115,6 +115,14 @@ shapes_there listed value = unwrap_or (option_map (shapes_from listed) (option_a
 -- the trees that are listed there, if anything stands there
 abbrev pub trees_there : Option Data → Option (List Tree)
 trees_there value = option_map (λ v. listed_after [] (unwrap_or (as_array v) json.no_items)) value
+
+-- ---- the tasks of declared shapes
+
+-- what is wrong with them: with the field, and with each entry
+abbrev pub tasks_complaints : Option Data → List RecordComplaint
+tasks_complaints tasks =
+    field_complaints declared_reading [] (entries_row (codes "tasks") false) tasks
+    ++ entries_complaints declared_reading task_rows (members_there tasks)
 
 -- ---- a certificate behind its list of shapes
 

@@ -3,7 +3,7 @@
 ghost use Rattle.std.specs.Prelude.{◌≡◌, [], map, pos, Some, IfOk, IfErr, OnOk, codes};
 ghost use Rattle.std.specs.Ordering.{int_eq};
 ghost use Rattle.asl_model.specs.Records.{Reading, VersionValue, StandsForCertificate, certificate_complaints, certificate_from, object_complaints, entries_complaints, entries_from, state_rows, state_from, misfits, version_misfits};
-ghost use Rattle.asl_shape.specs.Spelled.{member_named, tree_there};
+ghost use Rattle.asl_shape.specs.Spelled.{tree_there};
 ghost use Rattle.asl_tree.specs.View.{view, entries_view};
 ghost use Rattle.asl_numbered.specs.Expansion.{Keeps};
 ghost use Rattle.asl_records.specs.Numbered.{AreWithin, numbered_view};
@@ -13,7 +13,7 @@ ghost use Rattle.asl_records.specs.Proper.{IsProperCertificate};
 ghost use Rattle.asl_records.specs.View.{certificate_view};
 ghost use Rattle.asl_records.specs.Refusal.{IsCertificateRefusal};
 ghost use Rattle.asl_records.specs.Parts.{TellsOneOf, complaint_of, certified, certified_complaints, field_complaints, is_number, states_complaints, states_there, version_row};
-ghost use Rattle.asl_records.specs.Values.{AreMembers, For, Gives, IsPart, IsValue};
+ghost use Rattle.asl_records.specs.Values.{For, Gives, IsPart, IsValue, as_members, as_value, value_in};
 
 use crate::fields::{Reader, entries, stated};
 use crate::listed::read_listed;
@@ -55,12 +55,12 @@ pub fn read_numbered(alloc: Global, tree: &Tree) -> Result<NumberedCertificate, 
 
 /// The same, by the complaints about it.
 fn read_record(alloc: Global, tree: &Tree) -> Result<NumberedCertificate, ReadFault>
-    ensures right { OnOk result (For (IsValue (view tree.now)) (λ v. certificate_complaints v ≡ [])) }
-    ensures certificate { IfOk result (λ certificate. For (IsValue (view tree.now))
-        (λ v. numbered_view certificate ≡ certificate_from v)) }
+    ensures right { OnOk result (certificate_complaints (as_value (view tree.now)) ≡ []) }
+    ensures certificate { IfOk result
+        (λ certificate. numbered_view certificate ≡ certificate_from (as_value (view tree.now))) }
     ensures within { IfOk result AreWithin }
-    ensures refused { IfErr result (λ fault. For (IsValue (view tree.now))
-        (λ v. TellsOneOf (certificate_complaints v) fault)) }
+    ensures refused { IfErr result
+        (TellsOneOf (certificate_complaints (as_value (view tree.now)))) }
 {
     let record = Reader {
         alloc,
@@ -89,19 +89,19 @@ fn read_parts(
 ) -> Result<NumberedCertificate, ReadFault>
     requires listed { AreInTable shapes reader.listed }
     ensures right { OnOk result (ForReading reader.entry.several shapes reader.entry.listed
-        (λ reading. For (AreMembers (entries_view fields.now.entries))
-        (λ ms. certified_complaints reading ms ≡ []))) }
+        (λ reading. certified_complaints reading
+        (as_members (entries_view fields.now.entries)) ≡ [])) }
     ensures certificate { IfOk result
         (λ certificate. ForReading reader.entry.several shapes reader.entry.listed
-        (λ reading. For (AreMembers (entries_view fields.now.entries))
-        (λ ms. numbered_view certificate ≡ certified reading.listed ms))) }
+        (λ reading. numbered_view certificate
+        ≡ certified reading.listed (as_members (entries_view fields.now.entries)))) }
     ensures within { IfOk result
         (λ certificate. ForReading reader.entry.several shapes reader.entry.listed
         (λ _. AreWithin certificate)) }
     ensures refused { IfErr result
         (λ fault. ForReading reader.entry.several shapes reader.entry.listed
-        (λ reading. For (AreMembers (entries_view fields.now.entries))
-        (λ ms. TellsOneOf (certified_complaints reading ms) fault))) }
+        (λ reading. TellsOneOf (certified_complaints reading
+        (as_members (entries_view fields.now.entries))) fault)) }
 {
     let record = Reader { name: "", ..reader };
     let output = record.required_number(&mut shapes, "output", fields)?;
@@ -134,14 +134,13 @@ pub fn read_version(alloc: Global, version: Option<&Tree>) -> Result<bool, ReadF
 
 /// Whether lists of types may stand in a certificate of the version that the tree is.
 fn several_in(alloc: Global, tree: &Tree) -> Result<bool, ReadFault>
-    ensures right { OnOk result (For (IsValue (view tree.now)) (λ v. (reading : Reading)
-        → misfits reading VersionValue v ≡ [])) }
-    ensures several { IfOk result (λ several. For (IsValue (view tree.now))
-        (λ v. several ≡ is_number (pos 2) (Some v))) }
-    ensures refused { IfErr result (λ fault. For (IsValue (view tree.now))
-        (λ v. (reading : Reading)
+    ensures right { OnOk result ((reading : Reading)
+        → misfits reading VersionValue (as_value (view tree.now)) ≡ []) }
+    ensures several { IfOk result
+        (λ several. several ≡ is_number (pos 2) (Some (as_value (view tree.now)))) }
+    ensures refused { IfErr result (λ fault. (reading : Reading)
         → TellsOneOf (map (complaint_of [] (codes "version"))
-        (misfits reading VersionValue v)) fault)) }
+        (misfits reading VersionValue (as_value (view tree.now)))) fault) }
 {
     match tree {
         Tree::Int(number) => several_of(alloc, number),
@@ -172,16 +171,17 @@ fn read_states(
 ) -> Result<BTreeMap<String, StateNumbers>, ReadFault>
     requires listed { AreInTable shapes.old reader.listed }
     ensures right { OnOk result (ForReading reader.entry.several shapes.old reader.entry.listed
-        (λ reading. For (IsPart (member_named (codes "states") fields.now.entries))
-        (λ part. states_complaints reading part ≡ []))) }
+        (λ reading. states_complaints reading
+        (value_in (codes "states") fields.now.entries) ≡ [])) }
     ensures states { IfOk result
         (λ states. ForReading reader.entry.several shapes.old reader.entry.listed
-        (λ reading. Gives (IsPart (member_named (codes "states") fields.now.entries))
-        (states_there reading.listed) (λ all. AreStatesOf shapes.new all states.entries))) }
+        (λ reading. AreStatesOf shapes.new
+        (states_there reading.listed (value_in (codes "states") fields.now.entries))
+        states.entries)) }
     ensures refused { IfErr result
         (λ fault. ForReading reader.entry.several shapes.old reader.entry.listed
-        (λ reading. For (IsPart (member_named (codes "states") fields.now.entries))
-        (λ part. TellsOneOf (states_complaints reading part) fault))) }
+        (λ reading. TellsOneOf (states_complaints reading
+        (value_in (codes "states") fields.now.entries)) fault)) }
     ensures keeps { Keeps shapes.old shapes.new }
 {
     match stated(fields, "states") {
@@ -198,22 +198,21 @@ fn read_entries(
 ) -> Result<BTreeMap<String, StateNumbers>, ReadFault>
     requires listed { AreInTable shapes.old reader.listed }
     ensures right { OnOk result (ForReading reader.entry.several shapes.old reader.entry.listed
-        (λ reading. For (AreMembers (entries_view entries.now.entries))
-        (λ ms. entries_complaints reading state_rows ms ≡ []))) }
+        (λ reading. entries_complaints reading state_rows
+        (as_members (entries_view entries.now.entries)) ≡ [])) }
     ensures states { IfOk result
         (λ states. ForReading reader.entry.several shapes.old reader.entry.listed
-        (λ reading. Gives (AreMembers (entries_view entries.now.entries))
-        (entries_from (state_from reading.listed))
-        (λ all. AreStatesOf shapes.new all states.entries))) }
+        (λ reading. AreStatesOf shapes.new (entries_from (state_from reading.listed)
+        (as_members (entries_view entries.now.entries))) states.entries)) }
     ensures refused { IfErr result
         (λ fault. ForReading reader.entry.several shapes.old reader.entry.listed
-        (λ reading. For (AreMembers (entries_view entries.now.entries))
-        (λ ms. TellsOneOf (entries_complaints reading state_rows ms) fault))) }
+        (λ reading. TellsOneOf (entries_complaints reading state_rows
+        (as_members (entries_view entries.now.entries))) fault)) }
     ensures keeps { Keeps shapes.old shapes.new }
 {
     let mut states = BTreeMap::new(reader.alloc);
     for (name, tree) in entries.iter() {
-        let state = read_state(reader, shapes, name, tree)?;
+        let state = read_entry(reader, shapes, name, tree)?;
         let key = name.clone()?;
         drop(states.insert(key, state)?);
     }
@@ -242,6 +241,30 @@ pub fn read_state(
         (λ fault. ForReading reader.entry.several shapes.old reader.entry.listed
         (λ reading. For (IsValue (view tree.now))
         (λ v. TellsOneOf (object_complaints reading name.now state_rows v) fault))) }
+    ensures keeps { Keeps shapes.old shapes.new }
+{
+    read_entry(reader, shapes, name, tree)
+}
+
+/// The same, by the complaints about it.
+fn read_entry(
+    reader: Reader<'_>,
+    shapes: &mut Shapes,
+    name: &str,
+    tree: &Tree,
+) -> Result<StateNumbers, ReadFault>
+    requires listed { AreInTable shapes.old reader.listed }
+    ensures right { OnOk result (ForReading reader.entry.several shapes.old reader.entry.listed
+        (λ reading. object_complaints reading name.now state_rows
+        (as_value (view tree.now)) ≡ [])) }
+    ensures numbers { IfOk result
+        (λ state. ForReading reader.entry.several shapes.old reader.entry.listed
+        (λ reading. AreStateOf shapes.new (state_from reading.listed (as_value (view tree.now)))
+        state)) }
+    ensures refused { IfErr result
+        (λ fault. ForReading reader.entry.several shapes.old reader.entry.listed
+        (λ reading. TellsOneOf (object_complaints reading name.now state_rows
+        (as_value (view tree.now))) fault)) }
     ensures keeps { Keeps shapes.old shapes.new }
 {
     let state = Reader { name, ..reader };

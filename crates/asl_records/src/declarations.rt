@@ -1,14 +1,13 @@
 // Reading declared shapes.
 
-ghost use Rattle.std.specs.Prelude.{◌≡◌, ◌++◌, [], IfOk, IfErr, OnOk, false, codes};
+ghost use Rattle.std.specs.Prelude.{◌≡◌, [], IfOk, IfErr, OnOk, codes};
 ghost use Rattle.asl_model.specs.Records.{StandsForDeclared, declared_complaints, declared_from, declared_reading, object_complaints, entries_complaints, entries_from, task_rows, task_from};
-ghost use Rattle.asl_shape.specs.Spelled.{member_named};
 ghost use Rattle.asl_tree.specs.View.{view, entries_view};
 ghost use Rattle.asl_records.specs.View.{declared_view, task_view, tasks_view};
 ghost use Rattle.asl_records.specs.Refusal.{IsDeclaredRefusal};
 ghost use Rattle.asl_records.specs.Proper.{AreProperTasks, IsProperDeclared, IsProperTask};
-ghost use Rattle.asl_records.specs.Parts.{TellsOneOf, entries_row, field_complaints, members_there};
-ghost use Rattle.asl_records.specs.Values.{AreMembers, For, IsPart, IsValue};
+ghost use Rattle.asl_records.specs.Parts.{TellsOneOf, members_there, tasks_complaints};
+ghost use Rattle.asl_records.specs.Values.{For, IsValue, as_members, as_value, value_in};
 
 use crate::fields::{Reader, entries, stated};
 use crate::records::{Declared, TaskShapes};
@@ -32,12 +31,11 @@ pub fn read_declared(alloc: Global, tree: &Tree) -> Result<Declared, ReadFault>
 
 /// The same, by the complaints about it.
 fn read_record(alloc: Global, tree: &Tree) -> Result<Declared, ReadFault>
-    ensures right { OnOk result (For (IsValue (view tree.now)) (λ v. declared_complaints v ≡ [])) }
-    ensures declared { IfOk result (λ declared. For (IsValue (view tree.now))
-        (λ v. declared_view declared ≡ declared_from v)) }
+    ensures right { OnOk result (declared_complaints (as_value (view tree.now)) ≡ []) }
+    ensures declared { IfOk result
+        (λ declared. declared_view declared ≡ declared_from (as_value (view tree.now))) }
     ensures proper { IfOk result IsProperDeclared }
-    ensures refused { IfErr result
-        (λ fault. For (IsValue (view tree.now)) (λ v. TellsOneOf (declared_complaints v) fault)) }
+    ensures refused { IfErr result (TellsOneOf (declared_complaints (as_value (view tree.now)))) }
 {
     let record = Reader {
         alloc,
@@ -58,18 +56,13 @@ fn read_tasks(
     alloc: Global,
     fields: &BTreeMap<String, Tree>,
 ) -> Result<BTreeMap<String, TaskShapes>, ReadFault>
-    ensures right { OnOk result (For (IsPart (member_named (codes "tasks") fields.now.entries))
-        (λ part. field_complaints declared_reading [] (entries_row (codes "tasks") false) part
-        ++ entries_complaints declared_reading task_rows (members_there part) ≡ [])) }
-    ensures tasks { IfOk result
-        (λ tasks. For (IsPart (member_named (codes "tasks") fields.now.entries))
-        (λ part. tasks_view tasks.entries ≡ entries_from task_from (members_there part))) }
+    ensures right { OnOk result
+        (tasks_complaints (value_in (codes "tasks") fields.now.entries) ≡ []) }
+    ensures tasks { IfOk result (λ tasks. tasks_view tasks.entries
+        ≡ entries_from task_from (members_there (value_in (codes "tasks") fields.now.entries))) }
     ensures proper { IfOk result (λ tasks. AreProperTasks tasks.entries) }
     ensures refused { IfErr result
-        (λ fault. For (IsPart (member_named (codes "tasks") fields.now.entries))
-        (λ part. TellsOneOf
-        (field_complaints declared_reading [] (entries_row (codes "tasks") false) part
-        ++ entries_complaints declared_reading task_rows (members_there part)) fault)) }
+        (TellsOneOf (tasks_complaints (value_in (codes "tasks") fields.now.entries))) }
 {
     match stated(fields, "tasks") {
         Some(tasks) => read_entries(alloc, entries(alloc, "tasks", tasks)?),
@@ -82,13 +75,13 @@ fn read_entries(
     alloc: Global,
     entries: &BTreeMap<String, Tree>,
 ) -> Result<BTreeMap<String, TaskShapes>, ReadFault>
-    ensures right { OnOk result (For (AreMembers (entries_view entries.now.entries))
-        (λ ms. entries_complaints declared_reading task_rows ms ≡ [])) }
-    ensures tasks { IfOk result (λ tasks. For (AreMembers (entries_view entries.now.entries))
-        (λ ms. tasks_view tasks.entries ≡ entries_from task_from ms)) }
+    ensures right { OnOk result (entries_complaints declared_reading task_rows
+        (as_members (entries_view entries.now.entries)) ≡ []) }
+    ensures tasks { IfOk result (λ tasks. tasks_view tasks.entries
+        ≡ entries_from task_from (as_members (entries_view entries.now.entries))) }
     ensures proper { IfOk result (λ tasks. AreProperTasks tasks.entries) }
-    ensures refused { IfErr result (λ fault. For (AreMembers (entries_view entries.now.entries))
-        (λ ms. TellsOneOf (entries_complaints declared_reading task_rows ms) fault)) }
+    ensures refused { IfErr result (TellsOneOf (entries_complaints declared_reading task_rows
+        (as_members (entries_view entries.now.entries)))) }
 {
     let mut tasks = BTreeMap::new(alloc);
     for (name, task) in entries.iter() {
@@ -101,13 +94,13 @@ fn read_entries(
 
 /// The shapes of the task of this name.
 fn read_task(alloc: Global, name: &str, tree: &Tree) -> Result<TaskShapes, ReadFault>
-    ensures right { OnOk result (For (IsValue (view tree.now))
-        (λ v. object_complaints declared_reading name.now task_rows v ≡ [])) }
+    ensures right { OnOk result (object_complaints declared_reading name.now task_rows
+        (as_value (view tree.now)) ≡ []) }
     ensures shapes { IfOk result
-        (λ shapes. For (IsValue (view tree.now)) (λ v. task_view shapes ≡ task_from v)) }
+        (λ shapes. task_view shapes ≡ task_from (as_value (view tree.now))) }
     ensures proper { IfOk result IsProperTask }
-    ensures refused { IfErr result (λ fault. For (IsValue (view tree.now))
-        (λ v. TellsOneOf (object_complaints declared_reading name.now task_rows v) fault)) }
+    ensures refused { IfErr result (TellsOneOf (object_complaints declared_reading name.now
+        task_rows (as_value (view tree.now)))) }
 {
     let task = Reader {
         alloc,

@@ -2,14 +2,13 @@
 
 ghost use Rattle.std.specs.Prelude.{◌≡◌, List, [], map, true, false, Some, option_map, Contains, IfOk, IfErr, IfSome, OnOk};
 ghost use Rattle.asl_model.specs.Records.{RecordComplaint, ShapesValue, misfits, shape_from, shapes_from};
-ghost use Rattle.asl_shape.specs.Spelled.{member_named};
 ghost use Rattle.asl_tree.specs.View.{view, elements_view};
 ghost use Rattle.asl_numbered.specs.Expansion.{shape_at, IsNumberOf, Keeps};
 ghost use Rattle.asl_numbered.specs.References.{shapes_given, SpellsWith, TellsOf};
 ghost use Rattle.asl_records.specs.Listed.{AreInTable, ForReading};
 ghost use Rattle.asl_records.specs.Numbering.{AreListOf, IsItemOf};
 ghost use Rattle.asl_records.specs.Parts.{TellsOneOf, complaint_of, fault_told, field_complaints, shape_row, shape_there, shapes_complaints, shapes_row, shapes_there, tree_complaints, tree_shape};
-ghost use Rattle.asl_records.specs.Values.{AreItems, For, Gives, IsPart, IsValue};
+ghost use Rattle.asl_records.specs.Values.{as_items, as_value, value_in};
 
 use crate::fields::{Reader, stated};
 use crate::refusals::{ReadFault, RecordFault};
@@ -27,18 +26,16 @@ impl Reader<'_> {
     ) -> Result<usize, ReadFault>
         requires listed { AreInTable shapes.old self.now.listed }
         ensures right { OnOk result (ForReading self.now.several shapes.old self.now.listed
-            (λ reading. For (IsPart (member_named field.now fields.now.entries))
-            (λ part. field_complaints reading self.now.name.now
-            (shape_row field.now true) part ≡ []))) }
+            (λ reading. field_complaints reading self.now.name.now
+            (shape_row field.now true) (value_in field.now fields.now.entries) ≡ [])) }
         ensures number { IfOk result
             (λ number. ForReading self.now.several shapes.old self.now.listed
-            (λ reading. Gives (IsPart (member_named field.now fields.now.entries))
-            (shape_there reading.listed) (λ shape. IsNumberOf shapes.new shape number))) }
+            (λ reading. IsNumberOf shapes.new
+            (shape_there reading.listed (value_in field.now fields.now.entries)) number)) }
         ensures refused { IfErr result
             (λ fault. ForReading self.now.several shapes.old self.now.listed
-            (λ reading. For (IsPart (member_named field.now fields.now.entries))
-            (λ part. TellsOneOf (field_complaints reading self.now.name.now
-            (shape_row field.now true) part) fault))) }
+            (λ reading. TellsOneOf (field_complaints reading self.now.name.now
+            (shape_row field.now true) (value_in field.now fields.now.entries)) fault)) }
         ensures keeps { Keeps shapes.old shapes.new }
     {
         match stated(fields, field) {
@@ -56,18 +53,16 @@ impl Reader<'_> {
     ) -> Result<Option<usize>, ReadFault>
         requires listed { AreInTable shapes.old self.now.listed }
         ensures right { OnOk result (ForReading self.now.several shapes.old self.now.listed
-            (λ reading. For (IsPart (member_named field.now fields.now.entries))
-            (λ part. field_complaints reading self.now.name.now
-            (shape_row field.now false) part ≡ []))) }
+            (λ reading. field_complaints reading self.now.name.now
+            (shape_row field.now false) (value_in field.now fields.now.entries) ≡ [])) }
         ensures number { IfOk result
             (λ number. ForReading self.now.several shapes.old self.now.listed
-            (λ reading. Gives (IsPart (member_named field.now fields.now.entries))
-            (option_map (shape_from reading.listed)) (λ shape. IsItemOf shapes.new shape number))) }
+            (λ reading. IsItemOf shapes.new (option_map (shape_from reading.listed)
+            (value_in field.now fields.now.entries)) number)) }
         ensures refused { IfErr result
             (λ fault. ForReading self.now.several shapes.old self.now.listed
-            (λ reading. For (IsPart (member_named field.now fields.now.entries))
-            (λ part. TellsOneOf (field_complaints reading self.now.name.now
-            (shape_row field.now false) part) fault))) }
+            (λ reading. TellsOneOf (field_complaints reading self.now.name.now
+            (shape_row field.now false) (value_in field.now fields.now.entries)) fault)) }
         ensures keeps { Keeps shapes.old shapes.new }
     {
         match stated(fields, field) {
@@ -88,18 +83,16 @@ impl Reader<'_> {
     ) -> Result<Vec<usize>, ReadFault>
         requires listed { AreInTable shapes.old self.now.listed }
         ensures right { OnOk result (ForReading self.now.several shapes.old self.now.listed
-            (λ reading. For (IsPart (member_named field.now fields.now.entries))
-            (λ part. field_complaints reading self.now.name.now
-            (shapes_row field.now) part ≡ []))) }
+            (λ reading. field_complaints reading self.now.name.now
+            (shapes_row field.now) (value_in field.now fields.now.entries) ≡ [])) }
         ensures numbers { IfOk result
             (λ numbers. ForReading self.now.several shapes.old self.now.listed
-            (λ reading. Gives (IsPart (member_named field.now fields.now.entries))
-            (shapes_there reading.listed) (λ all. AreListOf shapes.new all numbers.items))) }
+            (λ reading. AreListOf shapes.new (shapes_there reading.listed
+            (value_in field.now fields.now.entries)) numbers.items)) }
         ensures refused { IfErr result
             (λ fault. ForReading self.now.several shapes.old self.now.listed
-            (λ reading. For (IsPart (member_named field.now fields.now.entries))
-            (λ part. TellsOneOf (field_complaints reading self.now.name.now
-            (shapes_row field.now) part) fault))) }
+            (λ reading. TellsOneOf (field_complaints reading self.now.name.now
+            (shapes_row field.now) (value_in field.now fields.now.entries)) fault)) }
         ensures keeps { Keeps shapes.old shapes.new }
     {
         match stated(fields, field) {
@@ -117,19 +110,16 @@ impl Reader<'_> {
     ) -> Result<Vec<usize>, ReadFault>
         requires listed { AreInTable shapes.old self.now.listed }
         ensures right { OnOk result (ForReading self.now.several shapes.old self.now.listed
-            (λ reading. For (IsValue (view tree.now))
-            (λ v. map (complaint_of self.now.name.now field.now)
-            (misfits reading ShapesValue v) ≡ []))) }
+            (λ reading. map (complaint_of self.now.name.now field.now)
+            (misfits reading ShapesValue (as_value (view tree.now))) ≡ [])) }
         ensures numbers { IfOk result
             (λ numbers. ForReading self.now.several shapes.old self.now.listed
-            (λ reading. Gives (IsValue (view tree.now))
-            (λ v. shapes_there reading.listed (Some v))
-            (λ all. AreListOf shapes.new all numbers.items))) }
+            (λ reading. AreListOf shapes.new
+            (shapes_there reading.listed (Some (as_value (view tree.now)))) numbers.items)) }
         ensures refused { IfErr result
             (λ fault. ForReading self.now.several shapes.old self.now.listed
-            (λ reading. For (IsValue (view tree.now))
-            (λ v. TellsOneOf (map (complaint_of self.now.name.now field.now)
-            (misfits reading ShapesValue v)) fault))) }
+            (λ reading. TellsOneOf (map (complaint_of self.now.name.now field.now)
+            (misfits reading ShapesValue (as_value (view tree.now)))) fault)) }
         ensures keeps { Keeps shapes.old shapes.new }
     {
         match tree {
@@ -149,17 +139,17 @@ impl Reader<'_> {
     ) -> Result<Vec<usize>, ReadFault>
         requires listed { AreInTable shapes.old self.now.listed }
         ensures right { OnOk result (ForReading self.now.several shapes.old self.now.listed
-            (λ reading. For (AreItems (elements_view elements.now))
-            (λ vs. shapes_complaints reading self.now.name.now field.now vs ≡ []))) }
+            (λ reading. shapes_complaints reading self.now.name.now field.now
+            (as_items (elements_view elements.now)) ≡ [])) }
         ensures numbers { IfOk result
             (λ numbers. ForReading self.now.several shapes.old self.now.listed
-            (λ reading. Gives (AreItems (elements_view elements.now))
-            (shapes_from reading.listed) (λ all. AreListOf shapes.new all numbers.items))) }
+            (λ reading. AreListOf shapes.new
+            (shapes_from reading.listed (as_items (elements_view elements.now)))
+            numbers.items)) }
         ensures refused { IfErr result
             (λ fault. ForReading self.now.several shapes.old self.now.listed
-            (λ reading. For (AreItems (elements_view elements.now))
-            (λ vs. TellsOneOf
-            (shapes_complaints reading self.now.name.now field.now vs) fault))) }
+            (λ reading. TellsOneOf (shapes_complaints reading self.now.name.now field.now
+            (as_items (elements_view elements.now))) fault)) }
         ensures keeps { Keeps shapes.old shapes.new }
     {
         let mut numbers = Vec::with_capacity(self.alloc, elements.len())?;

@@ -8,12 +8,11 @@ ghost use Rattle.asl_model.specs.Records.{Reading, RecordRow, RecordComplaint, B
 ghost use Rattle.asl_model.specs.Tree.{Object};
 ghost use Rattle.asl_shape.specs.View.{view as shape_view};
 ghost use Rattle.asl_shape.specs.Refusal.{fault_named};
-ghost use Rattle.asl_shape.specs.Spelled.{member_named, tree_there};
 ghost use Rattle.asl_tree.specs.View.{view, entries_view};
 ghost use Rattle.asl_records.specs.View.{record_fault_view};
 ghost use Rattle.asl_records.specs.Parts.{TellsOneOf, complaint_of, field_complaints, foreign_complaints, shape_row, shape_there, tree_complaints, tree_shape};
 ghost use Rattle.asl_records.specs.Proper.{IsProper};
-ghost use Rattle.asl_records.specs.Values.{AreMembers, For, IsPart, IsValue};
+ghost use Rattle.asl_records.specs.Values.{as_members, as_value, value_in, value_there};
 
 use crate::refusals::{ReadFault, RecordFault};
 use asl_shape::{Shape, ShapeRefusal};
@@ -39,8 +38,8 @@ impl Reader<'_> {
         ensures fields { IfOk result
             (λ fields. view tree.now ≡ Object (entries_view fields.now.entries)) }
         ensures refused { IfErr result
-            (λ fault. (reading : Reading) (rows : List RecordRow) → For (IsValue (view tree.now))
-            (λ v. TellsOneOf (object_complaints reading self.now.name.now rows v) fault)) }
+            (λ fault. (reading : Reading) (rows : List RecordRow) → TellsOneOf
+            (object_complaints reading self.now.name.now rows (as_value (view tree.now))) fault) }
     {
         match tree {
             Tree::Object(fields) => Ok(fields),
@@ -56,13 +55,12 @@ impl Reader<'_> {
         fields: &BTreeMap<String, Tree>,
         known: &[&str],
     ) -> Result<(), ReadFault>
-        ensures right { OnOk result (For (AreMembers (entries_view fields.now.entries))
-            (λ ms. foreign_complaints self.now.name.now
-            (map (λ field. field.now) known.now) ms ≡ [])) }
-        ensures refused { IfErr result
-            (λ fault. For (AreMembers (entries_view fields.now.entries))
-            (λ ms. TellsOneOf (foreign_complaints self.now.name.now
-            (map (λ field. field.now) known.now) ms) fault)) }
+        ensures right { OnOk result (foreign_complaints self.now.name.now
+            (map (λ field. field.now) known.now)
+            (as_members (entries_view fields.now.entries)) ≡ []) }
+        ensures refused { IfErr result (TellsOneOf (foreign_complaints self.now.name.now
+            (map (λ field. field.now) known.now)
+            (as_members (entries_view fields.now.entries)))) }
     {
         for (field, _) in fields.iter() {
             if !is_known(field, known) {
@@ -78,17 +76,14 @@ impl Reader<'_> {
         field: &'static str,
         fields: &BTreeMap<String, Tree>,
     ) -> Result<Shape, ReadFault>
-        ensures right { OnOk result (For (IsPart (member_named field.now fields.now.entries))
-            (λ part. field_complaints declared_reading self.now.name.now
-            (shape_row field.now true) part ≡ [])) }
+        ensures right { OnOk result (field_complaints declared_reading self.now.name.now
+            (shape_row field.now true) (value_in field.now fields.now.entries) ≡ []) }
         ensures shape { IfOk result
-            (λ shape. For (IsPart (member_named field.now fields.now.entries))
-            (λ part. shape_view shape ≡ shape_there None part)) }
+            (λ shape. shape_view shape ≡ shape_there None (value_in field.now fields.now.entries)) }
         ensures proper { IfOk result IsProper }
         ensures refused { IfErr result
-            (λ fault. For (IsPart (member_named field.now fields.now.entries))
-            (λ part. TellsOneOf (field_complaints declared_reading self.now.name.now
-            (shape_row field.now true) part) fault)) }
+            (TellsOneOf (field_complaints declared_reading self.now.name.now
+            (shape_row field.now true) (value_in field.now fields.now.entries))) }
     {
         match stated(fields, field) {
             Some(tree) => self.read_shape(field, tree),
@@ -102,17 +97,14 @@ impl Reader<'_> {
         field: &'static str,
         fields: &BTreeMap<String, Tree>,
     ) -> Result<Option<Shape>, ReadFault>
-        ensures right { OnOk result (For (IsPart (member_named field.now fields.now.entries))
-            (λ part. field_complaints declared_reading self.now.name.now
-            (shape_row field.now false) part ≡ [])) }
-        ensures shape { IfOk result
-            (λ shape. For (IsPart (member_named field.now fields.now.entries))
-            (λ part. option_map shape_view shape ≡ option_map (shape_from None) part)) }
+        ensures right { OnOk result (field_complaints declared_reading self.now.name.now
+            (shape_row field.now false) (value_in field.now fields.now.entries) ≡ []) }
+        ensures shape { IfOk result (λ shape. option_map shape_view shape
+            ≡ option_map (shape_from None) (value_in field.now fields.now.entries)) }
         ensures proper { IfOk result (λ shape. IfSome shape IsProper) }
         ensures refused { IfErr result
-            (λ fault. For (IsPart (member_named field.now fields.now.entries))
-            (λ part. TellsOneOf (field_complaints declared_reading self.now.name.now
-            (shape_row field.now false) part) fault)) }
+            (TellsOneOf (field_complaints declared_reading self.now.name.now
+            (shape_row field.now false) (value_in field.now fields.now.entries))) }
     {
         match stated(fields, field) {
             Some(tree) => match self.read_shape(field, tree) {
@@ -170,9 +162,8 @@ pub(crate) fn entries<'t>(
 ) -> Result<&'t BTreeMap<String, Tree>, ReadFault>
     ensures entries { IfOk result
         (λ entries. view tree.now ≡ Object (entries_view entries.now.entries)) }
-    ensures refused { IfErr result (λ fault. For (IsValue (view tree.now))
-        (λ v. TellsOneOf (map (complaint_of [] field.now)
-        (misfits declared_reading EntriesValue v)) fault)) }
+    ensures refused { IfErr result (TellsOneOf (map (complaint_of [] field.now)
+        (misfits declared_reading EntriesValue (as_value (view tree.now))))) }
 {
     match tree {
         Tree::Object(entries) => Ok(entries),
@@ -196,7 +187,7 @@ fn is_known(field: &str, known: &[&str]) -> bool
 
 /// What stands in a field.
 pub(crate) fn stated<'t>(fields: &'t BTreeMap<String, Tree>, field: &str) -> Option<&'t Tree>
-    ensures { tree_there result ≡ member_named field.now fields.now.entries }
+    ensures { value_there result ≡ value_in field.now fields.now.entries }
 {
     fields.get(field)
 }

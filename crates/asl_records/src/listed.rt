@@ -2,12 +2,11 @@
 
 ghost use Rattle.std.specs.Prelude.{◌≡◌, [], length, option_map, Some, IfOk, IfErr, IfSome, OnOk, codes};
 ghost use Rattle.asl_model.specs.Records.{listed_after};
-ghost use Rattle.asl_shape.specs.Spelled.{member_named};
 ghost use Rattle.asl_tree.specs.View.{view, elements_view};
 ghost use Rattle.asl_numbered.specs.Expansion.{AreBelow};
 ghost use Rattle.asl_records.specs.Listed.{AreMeant, IsReading};
 ghost use Rattle.asl_records.specs.Parts.{TellsOneOf, field_complaints, listed_row, listing_complaints, reading_of, trees_there, unlisted};
-ghost use Rattle.asl_records.specs.Values.{AreItems, For, Gives, IsPart, IsValue};
+ghost use Rattle.asl_records.specs.Values.{as_items, as_value, value_in};
 
 use crate::fields::{Reader, stated};
 use crate::refusals::{ReadFault, RecordFault};
@@ -23,17 +22,15 @@ pub(crate) fn read_listed(
     shapes: &mut Shapes,
     fields: &BTreeMap<String, Tree>,
 ) -> Result<Option<Vec<usize>>, ReadFault>
-    ensures right { OnOk result (For (IsPart (member_named (codes "shapes") fields.now.entries))
-        (λ part. field_complaints (unlisted several) [] listed_row part ≡ [])) }
+    ensures right { OnOk result (field_complaints (unlisted several) [] listed_row
+        (value_in (codes "shapes") fields.now.entries) ≡ []) }
     ensures below { IfOk result
         (λ numbers. IfSome numbers (λ ns. AreBelow (length shapes.new) ns.items)) }
     ensures meant { IfOk result
-        (λ numbers. Gives (IsPart (member_named (codes "shapes") fields.now.entries)) trees_there
-        (λ trees. IsReading several shapes.new (option_map (λ ns. ns.items) numbers)
-        (reading_of several trees))) }
-    ensures refused { IfErr result
-        (λ fault. For (IsPart (member_named (codes "shapes") fields.now.entries))
-        (λ part. TellsOneOf (field_complaints (unlisted several) [] listed_row part) fault)) }
+        (λ numbers. IsReading several shapes.new (option_map (λ ns. ns.items) numbers)
+        (reading_of several (trees_there (value_in (codes "shapes") fields.now.entries)))) }
+    ensures refused { IfErr result (TellsOneOf (field_complaints (unlisted several) [] listed_row
+        (value_in (codes "shapes") fields.now.entries))) }
 {
     match stated(fields, "shapes") {
         Some(tree) => Ok(Some(read_list(alloc, several, shapes, tree)?)),
@@ -48,15 +45,14 @@ fn read_list(
     shapes: &mut Shapes,
     tree: &Tree,
 ) -> Result<Vec<usize>, ReadFault>
-    ensures right { OnOk result (For (IsValue (view tree.now))
-        (λ v. field_complaints (unlisted several) [] listed_row (Some v) ≡ [])) }
+    ensures right { OnOk result (field_complaints (unlisted several) [] listed_row
+        (Some (as_value (view tree.now))) ≡ []) }
     ensures below { IfOk result (λ numbers. AreBelow (length shapes.new) numbers.items) }
     ensures meant { IfOk result
-        (λ numbers. Gives (IsValue (view tree.now)) (λ v. trees_there (Some v))
-        (λ trees. IsReading several shapes.new (Some numbers.items)
-        (reading_of several trees))) }
-    ensures refused { IfErr result (λ fault. For (IsValue (view tree.now))
-        (λ v. TellsOneOf (field_complaints (unlisted several) [] listed_row (Some v)) fault)) }
+        (λ numbers. IsReading several shapes.new (Some numbers.items)
+        (reading_of several (trees_there (Some (as_value (view tree.now)))))) }
+    ensures refused { IfErr result (TellsOneOf (field_complaints (unlisted several) [] listed_row
+        (Some (as_value (view tree.now))))) }
 {
     match tree {
         Tree::List(elements) => read_elements(alloc, several, shapes, elements),
@@ -73,13 +69,13 @@ fn read_elements(
     shapes: &mut Shapes,
     elements: &[Tree],
 ) -> Result<Vec<usize>, ReadFault>
-    ensures right { OnOk result (For (AreItems (elements_view elements.now))
-        (λ vs. listing_complaints several [] vs ≡ [])) }
+    ensures right { OnOk result (listing_complaints several []
+        (as_items (elements_view elements.now)) ≡ []) }
     ensures below { IfOk result (λ numbers. AreBelow (length shapes.new) numbers.items) }
-    ensures meant { IfOk result (λ numbers. Gives (AreItems (elements_view elements.now))
-        (listed_after []) (AreMeant several shapes.new numbers.items)) }
-    ensures refused { IfErr result (λ fault. For (AreItems (elements_view elements.now))
-        (λ vs. TellsOneOf (listing_complaints several [] vs) fault)) }
+    ensures meant { IfOk result (λ numbers. AreMeant several shapes.new numbers.items
+        (listed_after [] (as_items (elements_view elements.now)))) }
+    ensures refused { IfErr result
+        (TellsOneOf (listing_complaints several [] (as_items (elements_view elements.now)))) }
 {
     let mut numbers = Vec::with_capacity(alloc, elements.len())?;
     for element in elements {

@@ -18,7 +18,7 @@ returns-in_err-state-clause-refused c =
 pub loop-name-preserved : goal.loop-name-preserved
 loop-name-preserved c =
     let e : Stated = (c.in-Some.name.now, c.in-Some.tree.now) in
-    gone_on c.args.reader.several c.args.reader.listed c.args.shapes.now c.loop-name.shapes c.read_state.new.shapes c.args.entries.now.entries c.loop-name.name-iterator c.next.new.self c.loop-name.states.entries c.insert.new.self.entries e c.in_ok-key.key c.deref.result.now c.in_ok-state.state c.requires.listed c.loop-name.invariant c.in-Some.ensures.steps c.iter-name-items.ensures.ordered c.in_ok-state.ensures.keeps c.in_ok-key.ensures.cases c.deref.ensures c.in_ok-state.ensures.right c.in_ok-state.ensures.numbers c.in_ok-insert.ensures.entries
+    gone_on c.args.reader.several c.args.reader.listed c.args.shapes.now c.loop-name.shapes c.read_entry.new.shapes c.args.entries.now.entries c.loop-name.name-iterator c.next.new.self c.loop-name.states.entries c.insert.new.self.entries e c.in_ok-key.key c.deref.result.now c.in_ok-state.state c.requires.listed c.loop-name.invariant c.in-Some.ensures.steps c.iter-name-items.ensures.ordered c.in_ok-state.ensures.keeps c.in_ok-key.ensures.cases c.deref.ensures c.in_ok-state.ensures.right c.in_ok-state.ensures.numbers c.in_ok-insert.ensures.entries
 
 pub returns-clause-right : goal.returns-clause-right
 returns-clause-right c = none_wrong c.args.reader.several c.args.reader.listed c.args.shapes.now _ c.args.entries.now.entries c.loop-name.name-iterator c.loop-name.states.entries c.loop-name.invariant c.in-None.ensures.steps.0
@@ -26,5 +26,5 @@ returns-clause-right c = none_wrong c.args.reader.several c.args.reader.listed c
 pub returns-clause-states : goal.returns-clause-states
 returns-clause-states c = all_read c.args.reader.several c.args.reader.listed c.args.shapes.now _ c.args.entries.now.entries c.loop-name.name-iterator c.loop-name.states.entries c.loop-name.invariant c.in-None.ensures.steps.0
 
-pub read_state-requires : goal.read_state-requires
-read_state-requires c = record { listed = still_there c.args.shapes.now c.loop-name.shapes c.loop-name.invariant.keeps c.args.reader.listed c.requires.listed }
+pub read_entry-requires : goal.read_entry-requires
+read_entry-requires c = record { listed = still_there c.args.shapes.now c.loop-name.shapes c.loop-name.invariant.keeps c.args.reader.listed c.requires.listed }

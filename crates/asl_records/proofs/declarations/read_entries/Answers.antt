@@ -1,4 +1,4 @@
-use Rattle.std.proofs.Common.{sym, rules}
+use Rattle.std.proofs.Common.{rules}
 use Rattle.asl_model.specs.Records.{declared_reading, task_rows, task_from}
 use Rattle.asl_records.specs.Proper.{IsProperTask}
 use Rattle.asl_records.specs.View.{task_view}
@@ -21,7 +21,7 @@ pub loop-name-preserved : goal.loop-name-preserved
 loop-name-preserved c =
     let e : Stated = (c.in-Some.name.now, c.in-Some.task.now) in
     record {
-      reads = gone_on declared_reading task_view task_rows task_from c.args.entries.now.entries c.loop-name.name-iterator c.next.new.self c.loop-name.tasks.entries c.insert.new.self.entries e c.in_ok-key.key c.deref.result.now c.in_ok-shapes.shapes c.loop-name.invariant.reads c.in-Some.ensures.steps c.iter-name-items.ensures.ordered c.in_ok-key.ensures.cases c.deref.ensures c.in_ok-shapes.ensures.right (record { each = λ v is. sym (c.in_ok-shapes.ensures.shapes.each v is) }) c.in_ok-insert.ensures.entries;
+      reads = gone_on declared_reading task_view task_rows task_from c.args.entries.now.entries c.loop-name.name-iterator c.next.new.self c.loop-name.tasks.entries c.insert.new.self.entries e c.in_ok-key.key c.deref.result.now c.in_ok-shapes.shapes c.loop-name.invariant.reads c.in-Some.ensures.steps c.iter-name-items.ensures.ordered c.in_ok-key.ensures.cases c.deref.ensures c.in_ok-shapes.ensures.right c.in_ok-shapes.ensures.shapes c.in_ok-insert.ensures.entries;
       proper = one_more_proper IsProperTask c.loop-name.tasks.entries c.insert.new.self.entries c.in_ok-key.key c.in_ok-shapes.shapes c.loop-name.invariant.proper c.in_ok-shapes.ensures.proper c.in_ok-insert.ensures.entries;
     }
 
