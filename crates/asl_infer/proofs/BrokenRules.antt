@@ -1,18 +1,13 @@
 -- The rules that are broken along a walk whatever is certified have faults of the machine.
-use Rattle.std.proofs.Common.{◌≡◌, ℕ, List, [], ◌∷◌, ◌++◌, map, Bool, true, false, codes, Option, Some, None, Result, Ok, Err, if◌then◌else◌, refl}
+use Rattle.std.proofs.Common.{◌≡◌, List, [], ◌∷◌, refl}
 use Rattle.std.specs.List.{AllByRecursion}
 use Rattle.std.specs.Prelude.{IsTrue}
 use Rattle.asl_model.specs.Certificate.{StateShapes}
-use Rattle.asl_model.specs.Edges.{ToTask, Walked, Flows, Breaks, breaks_unless, onward, to_branches, to_child, to_end, to_next, walk, walk_catchers, walk_caught, walk_chosen, walk_default, walk_delay, walk_elements, walk_items, walk_items_result, walk_named, walk_result, walk_rule, walk_rules, walk_settled, walk_then, walk_work, with_elements_walked}
-use Rattle.asl_model.specs.Finding.{FindingFault, NoDefault, WrongKind, array_parts, as_first_elements, breach_of, effective_flow, element_shape, error_placed_shape, item_flow, map_result}
+use Rattle.asl_model.specs.Edges.{ToTask, Walked, Flows, Breaks, walk}
 use Rattle.asl_model.specs.Inference.{is_of_machine}
-use Rattle.asl_model.specs.Machine.{Catcher, Delay, Seconds, SecondsPath, Timestamp, TimestampPath, Kind, Pass, Task, Choice, Wait, Succeed, Fail, Parallel, Map, Scope, Scopes, NoScopes, AndScope, Settings}
-use Rattle.asl_model.specs.Shape.{Shape, Shapes, Never, ArrayShape, inhabited}
-use Rattle.asl_model.specs.ShapeFlow.{Flow, FlowFault, MissingAt, FailsAt, MisfitAt, is_integer_shape, is_string_shape, is_settled, leave, literal, found, rule_shape, DoubtfulPath}
-use Rattle.asl_model.specs.Template.{Template}
-use Rattle.asl_model.specs.Test.{Rule}
-
--- ---- the steps of a walk
+use Rattle.asl_model.specs.Machine.{Kind, Settings}
+use Rattle.asl_model.specs.Shape.{Shape}
+use Rattle.asl_check.proofs.WalkSteps.{IsOfWalk, edge_to_output, edge_to_next, edge_to_end, edge_to_child, edge_to_caught, edge_to_task, path_breaks, plain_breaks, plain_failure, plain_misfit, plain_kind, plain_default, walk_steps}
 
 -- a rule that is broken on the way is of the machine or of what is declared, and so is one that is about a payload
 abbrev pub IsOfMachine : Walked → Type 0
@@ -22,138 +17,22 @@ IsOfMachine (Breaks breach) = IsTrue (is_of_machine breach.fault)
 pub record AreOfMachine (steps : List Walked) : Type 0 where
   pub each : AllByRecursion IsOfMachine steps
 
-none : AreOfMachine []
-none = record { each = tt }
+of_machine : (w : Walked) → IsOfWalk w → IsOfMachine w
+of_machine w edge_to_output = λ e. absurd (cc)
+of_machine w edge_to_next = λ e. absurd (cc)
+of_machine w edge_to_end = λ e. absurd (cc)
+of_machine w edge_to_child = λ e. absurd (cc)
+of_machine w edge_to_caught = λ e. absurd (cc)
+of_machine w edge_to_task = λ e. refl
+of_machine w (path_breaks doubtful) = refl
+of_machine w (plain_breaks plain_failure) = refl
+of_machine w (plain_breaks plain_misfit) = refl
+of_machine w (plain_breaks plain_kind) = refl
+of_machine w (plain_breaks plain_default) = refl
 
-both : (xs ys : List Walked) → AreOfMachine xs → AreOfMachine ys → AreOfMachine (xs ++ ys)
-both [] ys h k = k
-both (x ∷ xs) ys h k = record { each = (h.each.0, (both xs ys (record { each = h.each.1 }) k).each) }
-
--- ---- the way of a shape
-
-faults : (fs : List FlowFault) → AreOfMachine (map (λ fault. Breaks (breach_of fault)) fs)
-faults [] = none
-faults (MissingAt field doubtful ∷ fs) = record { each = (refl, (faults fs).each) }
-faults (FailsAt field ∷ fs) = record { each = (refl, (faults fs).each) }
-faults (MisfitAt field ∷ fs) = record { each = (refl, (faults fs).each) }
-
-after : (go_on : Shape → List Walked) → ((s : Shape) → AreOfMachine (go_on s)) → (flow : Flow) → AreOfMachine (walk_then go_on flow)
-after go_on on (Ok s) = on s
-after go_on on (Err fs) = faults fs
-
-next : (field name : List ℕ) (s : Shape) → AreOfMachine (to_next field name s)
-next field name s = record { each = ((λ e. absurd (cc)), ((λ e. absurd (cc)), tt)) }
-
-end : (field : List ℕ) (s : Shape) → AreOfMachine (to_end field s)
-end field s = record { each = ((λ e. absurd (cc)), ((λ e. absurd (cc)), tt)) }
-
-on : (o : Option (List ℕ)) (s : Shape) → AreOfMachine (onward o s)
-on None s = end (codes "End") s
-on (Some name) s = next (codes "Next") name s
-
-result : (settings : Settings) (kind : Kind) (input s : Shape) → AreOfMachine (walk_result settings kind input s)
-result settings kind input s = after (onward settings.next) (on settings.next) (leave settings kind input s)
-
-chosen : (settings : Settings) (kind : Kind) (input : Shape) (field name : List ℕ) (s : Shape) → AreOfMachine (walk_chosen settings kind input field name s)
-chosen settings kind input field name s = after (to_next field name) (next field name) (leave settings kind input s)
-
--- ---- the parts of a walk
-
-unless : (holds : Bool) (field : List ℕ) (fault : FindingFault) → IsTrue (is_of_machine fault) → AreOfMachine (breaks_unless holds field fault)
-unless true field fault own = none
-unless false field fault own = record { each = (own, tt) }
-
-named : (field : List ℕ) (test : Shape → Bool) (r : Result Shape DoubtfulPath) → AreOfMachine (walk_named field test r)
-named field test (Ok s) = unless (test s) field WrongKind refl
-named field test (Err doubtful) = record { each = (refl, tt) }
-
-delay : (d : Delay) (s : Shape) → AreOfMachine (walk_delay d s)
-delay (Seconds n) s = none
-delay (SecondsPath path) s = named (codes "SecondsPath") is_integer_shape (found path s)
-delay (Timestamp t) s = none
-delay (TimestampPath path) s = named (codes "TimestampPath") is_string_shape (found path s)
-
-child : (field : List ℕ) (scope : Scope) (s : Shape) → AreOfMachine (to_child field scope s)
-child field scope s = record { each = ((λ e. absurd (cc)), tt) }
-
-branches : (scopes : Scopes) (s : Shape) → AreOfMachine (to_branches scopes s)
-branches NoScopes s = none
-branches (AndScope scope others) s = both (to_child (codes "Branches") scope s) (to_branches others s) (child (codes "Branches") scope s) (branches others s)
-
-items_result : (settings : Settings) (kind : Kind) (input : Shape) (item : Option Shape) (elements : Shapes × Shape) → AreOfMachine (walk_items_result settings kind input item elements)
-items_result settings kind input None elements = none
-items_result settings kind input (Some item) elements = result settings kind input (map_result item elements.0 elements.1)
-
-elements_walked : (settings : Settings) (kind : Kind) (entry : StateShapes) (selector : Option Template) (processor : Scope) (s : Shape) (elements : Shapes × Shape) → AreOfMachine (walk_elements settings kind entry selector processor s elements)
-elements_walked settings kind entry selector processor s elements =
-    both (walk_then (to_child (codes "ItemProcessor") processor) (item_flow selector s (element_shape elements.0 elements.1))) (walk_items_result settings kind entry.input entry.item elements)
-    (after (to_child (codes "ItemProcessor") processor) (child (codes "ItemProcessor") processor) (item_flow selector s (element_shape elements.0 elements.1)))
-    (items_result settings kind entry.input entry.item elements)
-
-listed : (go_on : Shapes × Shape → List Walked) → ((elements : Shapes × Shape) → AreOfMachine (go_on elements)) → (o : Option (Shapes × Shape)) → AreOfMachine (with_elements_walked go_on o)
-listed go_on h None = record { each = (refl, tt) }
-listed go_on h (Some elements) = h elements
-
-items : (go_on : Shapes × Shape → List Walked) → ((elements : Shapes × Shape) → AreOfMachine (go_on elements)) → (r : Result Shape DoubtfulPath) → AreOfMachine (walk_items go_on r)
-items go_on h (Ok s) = listed go_on h (array_parts s)
-items go_on h (Err doubtful) = record { each = (refl, tt) }
-
-rule : (settings : Settings) (kind : Kind) (input : Shape) (name : List ℕ) (r : Result Shape DoubtfulPath) → AreOfMachine (walk_rule settings kind input name r)
-rule settings kind input name (Err doubtful) = record { each = (refl, tt) }
-rule settings kind input name (Ok s) = chosen settings kind input (codes "Choices") name s
-
-rules_walked : (settings : Settings) (kind : Kind) (input : Shape) (rs : List Rule) (s : Shape) → AreOfMachine (walk_rules settings kind input rs s)
-rules_walked settings kind input [] s = none
-rules_walked settings kind input (r ∷ rs) s = both (walk_rule settings kind input r.next (rule_shape r.test s)) (walk_rules settings kind input rs s) (rule settings kind input r.next (rule_shape r.test s)) (rules_walked settings kind input rs s)
-
-default : (settings : Settings) (kind : Kind) (input : Shape) (rs : List Rule) (o : Option (List ℕ)) (s : Shape) → AreOfMachine (walk_default settings kind input rs o s)
-default settings kind input rs None s = unless (is_settled rs s) (codes "Default") NoDefault refl
-default settings kind input rs (Some name) s = chosen settings kind input (codes "Default") name s
-
-caught : (name : List ℕ) (r : Result Shape ℕ) → AreOfMachine (walk_caught name r)
-caught name (Ok s) = record { each = ((λ e. absurd (cc)), tt) }
-caught name (Err at) = record { each = (refl, tt) }
-
-catchers : (input : Shape) (cs : List Catcher) → AreOfMachine (walk_catchers input cs)
-catchers input [] = none
-catchers input (c ∷ cs) = both (walk_caught c.next (error_placed_shape c.result_path input)) (walk_catchers input cs) (caught c.next (error_placed_shape c.result_path input)) (catchers input cs)
-
--- ---- the walk
-
-work : (settings : Settings) (kind : Kind) (entry : StateShapes) (s : Shape) → AreOfMachine (walk_work settings kind entry s)
-work settings (Pass None) entry s = result settings (Pass None) entry.input s
-work settings (Pass (Some t)) entry s = none
-work settings (Task resource) entry s = record { each = ((λ e. refl), tt) }
-work settings (Choice rs o) entry s = both (walk_rules settings (Choice rs o) entry.input rs s) (walk_default settings (Choice rs o) entry.input rs o s) (rules_walked settings (Choice rs o) entry.input rs s) (default settings (Choice rs o) entry.input rs o s)
-work settings (Wait d) entry s = both (walk_delay d s) (walk_result settings (Wait d) entry.input s) (delay d s) (result settings (Wait d) entry.input s)
-work settings Succeed entry s = after (to_end (codes "Type")) (end (codes "Type")) (leave settings Succeed entry.input s)
-work settings (Fail error cause) entry s = none
-work settings (Parallel scopes) entry s = branches scopes s
-work settings (Map path selector processor) entry s = items (walk_elements settings (Map path selector processor) entry selector processor s) (elements_walked settings (Map path selector processor) entry selector processor s) (found path s)
-
-settled : (gives : Shape) (settings : Settings) (kind : Kind) (entry : StateShapes) → AreOfMachine (walk_settled gives settings kind entry)
-settled gives settings (Pass None) entry = none
-settled gives settings (Pass (Some t)) entry = result settings (Pass (Some t)) entry.input (literal t)
-settled gives settings (Task resource) entry = result settings (Task resource) entry.input gives
-settled gives settings (Choice rs o) entry = none
-settled gives settings (Wait d) entry = none
-settled gives settings Succeed entry = none
-settled gives settings (Fail error cause) entry = none
-settled gives settings (Parallel scopes) entry = result settings (Parallel scopes) entry.input (ArrayShape (as_first_elements entry.branches) Never)
-settled gives settings (Map path selector processor) entry = none
+are_of_machine : (steps : List Walked) → AllByRecursion IsOfWalk steps → AllByRecursion IsOfMachine steps
+are_of_machine [] h = tt
+are_of_machine (w ∷ steps) h = (of_machine w h.0, are_of_machine steps h.1)
 
 pub walk_of_machine : (gives : Shape) (settings : Settings) (kind : Kind) (entry : StateShapes) → AreOfMachine (walk gives settings kind entry)
-walk_of_machine gives settings kind entry = by (inhabited entry.input)
-  where
-    whole : List Walked
-    whole = walk_then (walk_work settings kind entry) (effective_flow settings entry.input) ++ (walk_settled gives settings kind entry ++ walk_catchers entry.input settings.catchers)
-
-    parts : AreOfMachine whole
-    parts =
-        both (walk_then (walk_work settings kind entry) (effective_flow settings entry.input)) (walk_settled gives settings kind entry ++ walk_catchers entry.input settings.catchers)
-        (after (walk_work settings kind entry) (work settings kind entry) (effective_flow settings entry.input))
-        (both (walk_settled gives settings kind entry) (walk_catchers entry.input settings.catchers) (settled gives settings kind entry) (catchers entry.input settings.catchers))
-
-    by : (b : Bool) → AreOfMachine (if b then whole else [])
-    by true = parts
-    by false = none
+walk_of_machine gives settings kind entry = record { each = are_of_machine _ (walk_steps gives settings kind entry).each }
