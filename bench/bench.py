@@ -13,11 +13,13 @@ Each form is a kind of text in growing sizes; the names of all forms, or those t
 - check-deep: the check of so many Pass states with shapes that nest 56 levels;
 - check-findings: the check of a chain with a finding in every state;
 - check-doublings: the check of a certificate that lists so many shapes, each an object of two of the one before;
-- infer-chain, infer-against: the inference of a chain, in byte order of the names and against it;
+- infer-chain, infer-against: the inference of a chain, in byte order of the names and against it. Of the instructions 45 in a
+  hundred read the definition, 30 infer and 19 write the certificate;
 - infer-doublings: the inference, with its shapes listed, of so many states that each put their input into two fields;
 - verify-ring: so many states in a ring, in byte order of the names, of which the last nests its input one level deeper;
 - verify-ring-against: the same, against the order of the names;
-- verify-fields: a chain of states that each place a field of their own;
+- verify-fields: a chain of states that each place a field of their own. The shape at each state is another one, so that the
+  names of all their fields grow as the square of the states: four fifths of the instructions copy and drop these;
 - verify-nested: the nested Parallels and Maps of check-nested;
 - verify-hub: a Choice that leads to so many states, which all lead to one;
 - lint-hub: what is told of the machine of verify-hub, in which nothing is wrong;
@@ -26,7 +28,8 @@ Each form is a kind of text in growing sizes; the names of all forms, or those t
 - run-chain: the run of a chain of Pass states over a record of 20 fields;
 - run-loop: a loop of four states (a template with Format, a Result that is placed, a Choice back), cut off after so
   many steps;
-- run-growing: a loop that nests its input one level deeper at each turn, cut off after so many turns;
+- run-growing: a loop that nests its input one level deeper at each turn, cut off after so many turns. At each turn the whole
+  input is copied, since an entry shows it and the output has it as a part;
 - run-map, run-map-last: a Map over so many items with an ItemSelector, its first and its last place first;
 - run-tasks-last: a Map of Tasks with declared shapes, its last place first;
 - run-parallel: a Parallel of so many branches;
