@@ -13,8 +13,8 @@ Each form is a kind of text in growing sizes; the names of all forms, or those t
 - check-deep: the check of so many Pass states with shapes that nest 56 levels;
 - check-findings: the check of a chain with a finding in every state;
 - check-doublings: the check of a certificate that lists so many shapes, each an object of two of the one before;
-- infer-chain, infer-against: the inference of a chain, in byte order of the names and against it. Of the instructions 45 in a
-  hundred read the definition, 30 infer and 19 write the certificate;
+- infer-chain, infer-against: the inference of a chain, in byte order of the names and against it. Of a hundred instructions
+  45 and 41 read the definition, 30 and 33 infer, and 19 write the certificate;
 - infer-doublings: the inference, with its shapes listed, of so many states that each put their input into two fields;
 - verify-ring: so many states in a ring, in byte order of the names, of which the last nests its input one level deeper;
 - verify-ring-against: the same, against the order of the names;
