@@ -61,16 +61,6 @@ pub(crate) const COVERAGE: &str = "coverage";
 
 pub(crate) const SHAPES: &str = "shapes";
 
-const ORDERS: [&str; 2] = ["first", "last"];
-
-const FORMATS: [&str; 4] = ["text", "json", "sarif", "github"];
-
-const REPORT_FORMATS: [&str; 3] = ["text", "json", "junit"];
-
-const GRAPH_FORMATS: [&str; 2] = ["mermaid", "dot"];
-
-const SHELLS: [&str; 3] = ["bash", "zsh", "fish"];
-
 /// What stands below the help of the program.
 const AFTER_HELP: &str = "\
 Without a command, the definition, the declared shapes and the certificate are taken as three lines
@@ -144,283 +134,336 @@ For bash: asl completions bash > ~/.local/share/bash-completion/completions/asl
 For zsh, with ~/.zfunc in $fpath: asl completions zsh > ~/.zfunc/_asl
 For fish: asl completions fish > ~/.config/fish/completions/asl.fish";
 
-/// The names of the commands.
-#[derive(Clone, Copy)]
-enum CommandName {
-    Check,
-    Infer,
-    Verify,
-    Run,
-    Lint,
-    Explain,
-    Declare,
-    Shape,
-    Test,
-    Graph,
-    Completions,
+/// A command: its name, what help says of it in a line and below its arguments, and these.
+struct CommandText {
+    name: &'static str,
+    about: &'static str,
+    after: &'static str,
+    arguments: &'static [ArgumentText],
 }
 
-/// All of them, in the order in which help has them.
-const COMMANDS: [CommandName; 11] = [
-    CommandName::Check,
-    CommandName::Infer,
-    CommandName::Verify,
-    CommandName::Run,
-    CommandName::Lint,
-    CommandName::Explain,
-    CommandName::Declare,
-    CommandName::Shape,
-    CommandName::Test,
-    CommandName::Graph,
-    CommandName::Completions,
+/// An argument of a command: its name, what it takes, and what help says of it.
+struct ArgumentText {
+    name: &'static str,
+    takes: Takes,
+    help: &'static str,
+}
+
+/// What an argument takes.
+#[derive(Clone, Copy)]
+enum Takes {
+    /// A value that has to be given.
+    One,
+    /// Values, of which one at least has to be given.
+    Several,
+    /// One of these words, which has to be given.
+    OneOf(&'static [&'static str]),
+    /// It is an option without a value.
+    Nothing,
+    /// It is an option without a value, for which another option has to be given, too.
+    NothingBeside(&'static str),
+    /// It is an option with a value, which help calls so.
+    Value(&'static str),
+    /// It is an option with a value, which help calls so, and which is one of these words; without it, it is the usual one.
+    Word {
+        value: &'static str,
+        words: &'static [&'static str],
+        usual: &'static str,
+    },
+    /// It is an option with a number that is at most that; without it, it is the usual one.
+    Number {
+        most: i64,
+        usual: &'static str,
+    },
+}
+
+/// The file with the definition.
+const A_DEFINITION: ArgumentText = ArgumentText {
+    name: DEFINITION,
+    takes: Takes::One,
+    help: "File with the definition of the state machine",
+};
+
+/// The file with the declared shapes.
+const DECLARED_SHAPES: ArgumentText = ArgumentText {
+    name: DECLARED,
+    takes: Takes::One,
+    help: "File with the declared shapes",
+};
+
+/// The commands, in the order in which help has them.
+const COMMANDS: [CommandText; 11] = [
+    CommandText {
+        name: "check",
+        about: "Check a certificate of shapes and print the verdict",
+        after: AFTER_CHECK_HELP,
+        arguments: &[
+            A_DEFINITION,
+            DECLARED_SHAPES,
+            ArgumentText {
+                name: CERTIFICATE,
+                takes: Takes::One,
+                help: "File with the certificate",
+            },
+        ],
+    },
+    CommandText {
+        name: "infer",
+        about: "Infer a certificate of shapes and print it",
+        after: AFTER_INFER_HELP,
+        arguments: &[
+            A_DEFINITION,
+            DECLARED_SHAPES,
+            ArgumentText {
+                name: NUMBERED,
+                takes: Takes::Nothing,
+                help: "List each compound shape once, and refer to it by its number",
+            },
+        ],
+    },
+    CommandText {
+        name: "verify",
+        about: "Infer a certificate of shapes and print yes, or why there is none",
+        after: AFTER_VERIFY_HELP,
+        arguments: &[A_DEFINITION, DECLARED_SHAPES],
+    },
+    CommandText {
+        name: "run",
+        about: "Run a state machine and print its trace",
+        after: AFTER_RUN_HELP,
+        arguments: &[
+            A_DEFINITION,
+            ArgumentText {
+                name: INPUT,
+                takes: Takes::One,
+                help: "File with the input",
+            },
+            ArgumentText {
+                name: ANSWERS,
+                takes: Takes::One,
+                help: "File with the answers of the tasks",
+            },
+            ArgumentText {
+                name: DECLARED_FILE,
+                takes: Takes::Value("FILE"),
+                help: "File with the declared shapes, which the input and the answers must have",
+            },
+            ArgumentText {
+                name: ORDER,
+                takes: Takes::Word {
+                    value: "ORDER",
+                    words: &["first", "last"],
+                    usual: "first",
+                },
+                help: "Which of several places takes its turn",
+            },
+            ArgumentText {
+                name: MAX_STEPS,
+                takes: Takes::Number {
+                    most: 10000,
+                    usual: "1000",
+                },
+                help: "How many events the run may take, at most 10000",
+            },
+        ],
+    },
+    CommandText {
+        name: "lint",
+        about: "Tell all that is wrong with definitions, and where",
+        after: AFTER_LINT_HELP,
+        arguments: &[
+            ArgumentText {
+                name: FILE,
+                takes: Takes::Several,
+                help: "Definitions, and folders with definitions *.asl.json",
+            },
+            ArgumentText {
+                name: DECLARED_FILE,
+                takes: Takes::Value("FILE"),
+                help: "File with the declared shapes of all of them",
+            },
+            ArgumentText {
+                name: FORMAT,
+                takes: Takes::Word {
+                    value: "FORMAT",
+                    words: &["text", "json", "sarif", "github"],
+                    usual: "text",
+                },
+                help: "How it is told",
+            },
+            ArgumentText {
+                name: DENY_WARNINGS,
+                takes: Takes::Nothing,
+                help: "Exit with status 1 for warnings, too",
+            },
+        ],
+    },
+    CommandText {
+        name: "explain",
+        about: "Explain findings: what is there, and by which way it came",
+        after: AFTER_EXPLAIN_HELP,
+        arguments: &[
+            A_DEFINITION,
+            DECLARED_SHAPES,
+            ArgumentText {
+                name: STATE,
+                takes: Takes::Value("NAME"),
+                help: "Tell what comes to this state, and from where",
+            },
+        ],
+    },
+    CommandText {
+        name: "declare",
+        about: "Print declared shapes to begin with",
+        after: AFTER_DECLARE_HELP,
+        arguments: &[A_DEFINITION],
+    },
+    CommandText {
+        name: "shape",
+        about: "Print the shape that JSON samples have in common",
+        after: AFTER_SHAPE_HELP,
+        arguments: &[
+            ArgumentText {
+                name: SAMPLE,
+                takes: Takes::Several,
+                help: "Files with a sample each",
+            },
+            ArgumentText {
+                name: OPEN,
+                takes: Takes::Nothing,
+                help: "Let objects have other fields, too, of any shape",
+            },
+        ],
+    },
+    CommandText {
+        name: "test",
+        about: "Run the cases of test suites",
+        after: AFTER_TEST_HELP,
+        arguments: &[
+            ArgumentText {
+                name: SUITE,
+                takes: Takes::Several,
+                help: "Files with a suite each",
+            },
+            ArgumentText {
+                name: CASE,
+                takes: Takes::Value("NAME"),
+                help: "Run the case of this name alone",
+            },
+            ArgumentText {
+                name: FORMAT,
+                takes: Takes::Word {
+                    value: "FORMAT",
+                    words: &["text", "json", "junit"],
+                    usual: "text",
+                },
+                help: "How it is told",
+            },
+            ArgumentText {
+                name: COVERAGE,
+                takes: Takes::Nothing,
+                help: "Tell which states, rules, retriers and catchers no case took",
+            },
+        ],
+    },
+    CommandText {
+        name: "graph",
+        about: "Print a picture of a state machine",
+        after: AFTER_GRAPH_HELP,
+        arguments: &[
+            A_DEFINITION,
+            ArgumentText {
+                name: DECLARED_FILE,
+                takes: Takes::Value("FILE"),
+                help: "File with the declared shapes, by which findings are shown",
+            },
+            ArgumentText {
+                name: FORMAT,
+                takes: Takes::Word {
+                    value: "FORMAT",
+                    words: &["mermaid", "dot"],
+                    usual: "mermaid",
+                },
+                help: "What it is written for",
+            },
+            ArgumentText {
+                name: SHAPES,
+                takes: Takes::NothingBeside(DECLARED_FILE),
+                help: "Tell the shape of what goes along each edge",
+            },
+        ],
+    },
+    CommandText {
+        name: "completions",
+        about: "Print the completions of the command line for a shell",
+        after: AFTER_COMPLETIONS_HELP,
+        arguments: &[ArgumentText {
+            name: SHELL,
+            takes: Takes::OneOf(&["bash", "zsh", "fish"]),
+            help: "The shell",
+        }],
+    },
 ];
 
 /// The command line of the program.
 pub(crate) fn program<'a>(alloc: Global) -> Result<Command<'a>, AllocError> {
-    let program = Command::new(alloc, "asl")
+    let mut program = Command::new(alloc, "asl")
         .version(VERSION)
         .about("Check the data flow of workflows in Amazon States Language, and run them")
         .after_help(AFTER_HELP);
-    program.subcommands(commands(alloc)?)
+    for text in &COMMANDS {
+        program = program.subcommand(command(alloc, text)?)?;
+    }
+    Ok(program)
 }
 
 /// The command of that name, named as behind the program's name.
-pub(crate) fn command_named<'a>(
-    alloc: Global,
-    name: &str,
-) -> Result<Option<Command<'a>>, AllocError> {
-    let found = commands(alloc)?
-        .into_iter()
-        .find(|command| command.get_name() == name);
-    match found {
-        Some(command) => Ok(Some(command.bin_name(&format!(in alloc; "asl {name}")?)?)),
+pub(crate) fn command_named<'a>(alloc: Global, name: &str) -> Result<Option<Command<'a>>, AllocError> {
+    match COMMANDS.iter().find(|text| text.name == name) {
+        Some(text) => Ok(Some(command(alloc, text)?.bin_name(&format!(in alloc; "asl {name}")?)?)),
         None => Ok(None),
     }
 }
 
-/// The commands, in the order in which help has them.
-fn commands<'a>(alloc: Global) -> Result<Vec<Command<'a>>, AllocError> {
-    let mut commands = Vec::new(alloc);
-    for name in &COMMANDS {
-        commands.push(command(alloc, *name)?)?;
+/// The command of that text.
+fn command<'a>(alloc: Global, text: &CommandText) -> Result<Command<'a>, AllocError> {
+    let mut command = Command::new(alloc, text.name)
+        .about(text.about)
+        .after_help(text.after);
+    for argument in text.arguments {
+        command = command.arg(argument_of(alloc, argument)?)?;
     }
-    Ok(commands)
+    Ok(command)
 }
 
-/// The command of that name.
-fn command<'a>(alloc: Global, name: CommandName) -> Result<Command<'a>, AllocError> {
-    match name {
-        CommandName::Check => check_command(alloc),
-        CommandName::Infer => infer_command(alloc),
-        CommandName::Verify => verify_command(alloc),
-        CommandName::Run => run_command(alloc),
-        CommandName::Lint => lint_command(alloc),
-        CommandName::Explain => explain_command(alloc),
-        CommandName::Declare => declare_command(alloc),
-        CommandName::Shape => shape_command(alloc),
-        CommandName::Test => test_command(alloc),
-        CommandName::Graph => graph_command(alloc),
-        CommandName::Completions => completions_command(alloc),
-    }
+/// The argument of that text.
+fn argument_of<'a>(alloc: Global, text: &ArgumentText) -> Result<Arg<'a>, AllocError> {
+    let argument = Arg::new(alloc, text.name).help(text.help);
+    Ok(match text.takes {
+        Takes::One => argument.required(true),
+        Takes::Several => argument.required(true).num_args(1..),
+        Takes::OneOf(words) => argument.required(true).value_parser(words),
+        Takes::Nothing => flag(argument, text.name),
+        Takes::NothingBeside(other) => flag(argument, text.name).requires_arg(other)?,
+        Takes::Value(value) => argument.long(text.name).value_name(value),
+        Takes::Word {
+            value,
+            words,
+            usual,
+        } => argument
+            .long(text.name)
+            .value_name(value)
+            .value_parser(words)
+            .default_value(usual),
+        Takes::Number { most, usual } => argument
+            .long(text.name)
+            .value_name("N")
+            .value_parser(value_parser!(u64).range(0..=most))
+            .default_value(usual),
+    })
 }
 
-/// The command `check`.
-fn check_command<'a>(alloc: Global) -> Result<Command<'a>, AllocError> {
-    Command::new(alloc, "check")
-        .about("Check a certificate of shapes and print the verdict")
-        .after_help(AFTER_CHECK_HELP)
-        .arg(definition(alloc))?
-        .arg(declared(alloc))?
-        .arg(file(alloc, CERTIFICATE, "File with the certificate"))
-}
-
-/// The command `infer`.
-fn infer_command<'a>(alloc: Global) -> Result<Command<'a>, AllocError> {
-    Command::new(alloc, "infer")
-        .about("Infer a certificate of shapes and print it")
-        .after_help(AFTER_INFER_HELP)
-        .arg(definition(alloc))?
-        .arg(declared(alloc))?
-        .arg(flag(
-            alloc,
-            NUMBERED,
-            "List each compound shape once, and refer to it by its number",
-        ))
-}
-
-/// The command `verify`.
-fn verify_command<'a>(alloc: Global) -> Result<Command<'a>, AllocError> {
-    Command::new(alloc, "verify")
-        .about("Infer a certificate of shapes and print yes, or why there is none")
-        .after_help(AFTER_VERIFY_HELP)
-        .arg(definition(alloc))?
-        .arg(declared(alloc))
-}
-
-/// The command `run`.
-fn run_command<'a>(alloc: Global) -> Result<Command<'a>, AllocError> {
-    let steps = "How many events the run may take, at most 10000";
-    Command::new(alloc, "run")
-        .about("Run a state machine and print its trace")
-        .after_help(AFTER_RUN_HELP)
-        .arg(definition(alloc))?
-        .arg(file(alloc, INPUT, "File with the input"))?
-        .arg(file(alloc, ANSWERS, "File with the answers of the tasks"))?
-        .arg(option(alloc, DECLARED_FILE, "FILE").help(
-            "File with the declared shapes, which the input and the answers must have",
-        ))?
-        .arg(choice(alloc, ORDER, "ORDER", ORDERS.as_slice(), "first").help(
-            "Which of several places takes its turn",
-        ))?
-        .arg(
-            option(alloc, MAX_STEPS, "N")
-                .value_parser(value_parser!(u64).range(0..=10000))
-                .default_value("1000")
-                .help(steps),
-        )
-}
-
-/// The command `lint`.
-fn lint_command<'a>(alloc: Global) -> Result<Command<'a>, AllocError> {
-    Command::new(alloc, "lint")
-        .about("Tell all that is wrong with definitions, and where")
-        .after_help(AFTER_LINT_HELP)
-        .arg(files(
-            alloc,
-            FILE,
-            "Definitions, and folders with definitions *.asl.json",
-        ))?
-        .arg(option(alloc, DECLARED_FILE, "FILE").help(
-            "File with the declared shapes of all of them",
-        ))?
-        .arg(choice(alloc, FORMAT, "FORMAT", FORMATS.as_slice(), "text").help("How it is told"))?
-        .arg(flag(alloc, DENY_WARNINGS, "Exit with status 1 for warnings, too"))
-}
-
-/// The command `explain`.
-fn explain_command<'a>(alloc: Global) -> Result<Command<'a>, AllocError> {
-    Command::new(alloc, "explain")
-        .about("Explain findings: what is there, and by which way it came")
-        .after_help(AFTER_EXPLAIN_HELP)
-        .arg(definition(alloc))?
-        .arg(declared(alloc))?
-        .arg(option(alloc, STATE, "NAME").help("Tell what comes to this state, and from where"))
-}
-
-/// The command `declare`.
-fn declare_command<'a>(alloc: Global) -> Result<Command<'a>, AllocError> {
-    Command::new(alloc, "declare")
-        .about("Print declared shapes to begin with")
-        .after_help(AFTER_DECLARE_HELP)
-        .arg(definition(alloc))
-}
-
-/// The command `shape`.
-fn shape_command<'a>(alloc: Global) -> Result<Command<'a>, AllocError> {
-    Command::new(alloc, "shape")
-        .about("Print the shape that JSON samples have in common")
-        .after_help(AFTER_SHAPE_HELP)
-        .arg(files(alloc, SAMPLE, "Files with a sample each"))?
-        .arg(flag(
-            alloc,
-            OPEN,
-            "Let objects have other fields, too, of any shape",
-        ))
-}
-
-/// The command `test`.
-fn test_command<'a>(alloc: Global) -> Result<Command<'a>, AllocError> {
-    Command::new(alloc, "test")
-        .about("Run the cases of test suites")
-        .after_help(AFTER_TEST_HELP)
-        .arg(files(alloc, SUITE, "Files with a suite each"))?
-        .arg(option(alloc, CASE, "NAME").help("Run the case of this name alone"))?
-        .arg(choice(alloc, FORMAT, "FORMAT", REPORT_FORMATS.as_slice(), "text").help(
-            "How it is told",
-        ))?
-        .arg(flag(
-            alloc,
-            COVERAGE,
-            "Tell which states, rules, retriers and catchers no case took",
-        ))
-}
-
-/// The command `graph`.
-fn graph_command<'a>(alloc: Global) -> Result<Command<'a>, AllocError> {
-    Command::new(alloc, "graph")
-        .about("Print a picture of a state machine")
-        .after_help(AFTER_GRAPH_HELP)
-        .arg(definition(alloc))?
-        .arg(option(alloc, DECLARED_FILE, "FILE").help(
-            "File with the declared shapes, by which findings are shown",
-        ))?
-        .arg(choice(alloc, FORMAT, "FORMAT", GRAPH_FORMATS.as_slice(), "mermaid").help(
-            "What it is written for",
-        ))?
-        .arg(flag(alloc, SHAPES, "Tell the shape of what goes along each edge").requires_arg(
-            DECLARED_FILE,
-        )?)
-}
-
-/// The command `completions`.
-fn completions_command<'a>(alloc: Global) -> Result<Command<'a>, AllocError> {
-    Command::new(alloc, "completions")
-        .about("Print the completions of the command line for a shell")
-        .after_help(AFTER_COMPLETIONS_HELP)
-        .arg(
-            Arg::new(alloc, SHELL)
-                .required(true)
-                .value_parser(SHELLS.as_slice())
-                .help("The shell"),
-        )
-}
-
-/// The file with the definition.
-fn definition<'a>(alloc: Global) -> Arg<'a> {
-    file(
-        alloc,
-        DEFINITION,
-        "File with the definition of the state machine",
-    )
-}
-
-/// The file with the declared shapes.
-fn declared<'a>(alloc: Global) -> Arg<'a> {
-    file(alloc, DECLARED, "File with the declared shapes")
-}
-
-/// A file name that has to be given.
-fn file<'a>(alloc: Global, name: &'a str, help: &'a str) -> Arg<'a> {
-    Arg::new(alloc, name).required(true).help(help)
-}
-
-/// File names, of which one at least has to be given.
-fn files<'a>(alloc: Global, name: &'a str, help: &'a str) -> Arg<'a> {
-    file(alloc, name, help).num_args(1..)
-}
-
-/// An option with a value.
-fn option<'a>(alloc: Global, name: &'a str, value: &'a str) -> Arg<'a> {
-    Arg::new(alloc, name).long(name).value_name(value)
-}
-
-/// An option whose value is one of these words; without it, it is the usual one.
-fn choice<'a>(
-    alloc: Global,
-    name: &'a str,
-    value: &'a str,
-    words: &'a [&'a str],
-    usual: &'a str,
-) -> Arg<'a> {
-    option(alloc, name, value)
-        .value_parser(words)
-        .default_value(usual)
-}
-
-/// An option without a value.
-fn flag<'a>(alloc: Global, name: &'a str, help: &'a str) -> Arg<'a> {
-    Arg::new(alloc, name)
-        .long(name)
-        .action(ArgAction::SetTrue)
-        .help(help)
+/// The argument as an option of that name without a value.
+fn flag<'a>(argument: Arg<'a>, name: &'a str) -> Arg<'a> {
+    argument.long(name).action(ArgAction::SetTrue)
 }
