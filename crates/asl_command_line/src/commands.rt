@@ -418,7 +418,10 @@ pub(crate) fn program<'a>(alloc: Global) -> Result<Command<'a>, AllocError> {
 }
 
 /// The command of that name, named as behind the program's name.
-pub(crate) fn command_named<'a>(alloc: Global, name: &str) -> Result<Option<Command<'a>>, AllocError> {
+pub(crate) fn command_named<'a>(
+    alloc: Global,
+    name: &str,
+) -> Result<Option<Command<'a>>, AllocError> {
     match COMMANDS.iter().find(|text| text.name == name) {
         Some(text) => Ok(Some(command(alloc, text)?.bin_name(&format!(in alloc; "asl {name}")?)?)),
         None => Ok(None),

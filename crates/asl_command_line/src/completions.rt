@@ -46,10 +46,20 @@ fn completions_on<R: Print + AllocGlobal>(rt: &R, shell: Shell) -> Result<u8, Ru
 
 /// The script for a shell.
 fn script(alloc: Global, shell: Shell) -> Result<String, OutOfMemory> {
+    Ok(script_of_program(alloc, shell)?)
+}
+
+/// The script for a shell, made of the commands that `clap` has.
+fn script_of_program(alloc: Global, shell: Shell) -> Result<String, AllocError> {
+    let program = built_program(alloc)?;
+    script_for(alloc, shell, &program)
+}
+
+/// The command line of the program, with what `clap` itself puts in.
+fn built_program<'a>(alloc: Global) -> Result<Command<'a>, AllocError> {
     let mut program = program(alloc)?;
     program.build()?;
-    let names = names_of_commands(alloc, &program)?;
-    Ok(script_for(alloc, shell, &program, &names)?)
+    Ok(program)
 }
 
 /// The names of a program's commands.
@@ -64,17 +74,13 @@ fn names_of_commands<'a>(
     Ok(names)
 }
 
-/// The script for a shell and a program with commands of these names.
-fn script_for(
-    alloc: Global,
-    shell: Shell,
-    program: &Command<'_>,
-    commands: &[&str],
-) -> Result<String, AllocError> {
+/// The script for a shell and a program.
+fn script_for(alloc: Global, shell: Shell, program: &Command<'_>) -> Result<String, AllocError> {
+    let names = names_of_commands(alloc, program)?;
     match shell {
-        Shell::Bash => bash::script(alloc, program, commands),
-        Shell::Zsh => zsh::script(alloc, program, commands),
-        Shell::Fish => fish::script(alloc, program, commands),
+        Shell::Bash => bash::script(alloc, program, &names),
+        Shell::Zsh => zsh::script(alloc, program, &names),
+        Shell::Fish => fish::script(alloc, program, &names),
     }
 }
 

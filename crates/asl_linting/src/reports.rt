@@ -16,7 +16,7 @@ pub(crate) struct Report {
     checked: usize,
     /// The definitions without declared shapes.
     undeclared: Vec<String>,
-    /// Lines for standard error, on what couldn't be looked at.
+    /// Lines for standard error, on what couldn't be looked at and on what seems to be no definition.
     notes: String,
     /// How many these are.
     unread: usize,
@@ -56,12 +56,19 @@ impl Report {
         }
     }
 
-    /// Takes what was found in a definition.
-    pub(crate) fn add_checked(&mut self, linted: Linted) -> Result<(), OutOfMemory> {
+    /// Takes what was found in the definition at that path.
+    pub(crate) fn add_checked(&mut self, path: &str, linted: Linted) -> Result<(), OutOfMemory> {
         self.checked = self.checked.saturating_add(1);
         self.is_partial |= !linted.is_read;
+        let is_exchanged = has_fields_of_declared(&linted.diagnostics);
         for diagnostic in linted.diagnostics {
             self.diagnostics.push(diagnostic)?;
+        }
+        if is_exchanged {
+            self.note(
+                path,
+                "it has the fields of declared shapes; they are given by --declared",
+            )?;
         }
         Ok(())
     }
@@ -77,9 +84,14 @@ impl Report {
     pub(crate) fn add_unread(&mut self, path: &str, why: &str) -> Result<(), OutOfMemory> {
         self.is_partial = true;
         self.unread = self.unread.saturating_add(1);
+        self.note(path, why)
+    }
+
+    /// Puts a line for standard error down that says that of a path.
+    fn note(&mut self, path: &str, what: &str) -> Result<(), OutOfMemory> {
         let alloc = *self.undeclared.allocator();
         let path = in_line(alloc, path)?;
-        write!(self.notes, "{path}: {why}\n")?;
+        write!(self.notes, "{path}: {what}\n")?;
         Ok(())
     }
 
@@ -140,6 +152,18 @@ impl Counts {
             0
         }
     }
+}
+
+/// Whether what was taken for a definition lacks a definition's fields, and has those of declared shapes.
+fn has_fields_of_declared(diagnostics: &[Diagnostic]) -> bool {
+    is_told(diagnostics, "MissingField", "StartAt") && is_told(diagnostics, "UnknownField", "input")
+}
+
+/// Whether that rule is told of that field of a whole machine.
+fn is_told(diagnostics: &[Diagnostic], rule: &str, field: &str) -> bool {
+    diagnostics.iter().any(|it| it.rule.id == rule
+        && it.state.is_none()
+        && it.field.as_deref() == Some(field))
 }
 
 /// A number and what is counted, in the plural where it isn't one.
