@@ -21,7 +21,7 @@ import beside
 import toolchain
 
 CRATE = "asl_tests"
-SECONDS = 1200
+SECONDS = 2400
 
 
 def rt_without_checks(folder):
