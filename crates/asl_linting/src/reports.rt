@@ -60,17 +60,14 @@ impl Report {
     pub(crate) fn add_checked(&mut self, path: &str, linted: Linted) -> Result<(), OutOfMemory> {
         self.checked = self.checked.saturating_add(1);
         self.is_partial |= !linted.is_read;
-        let is_exchanged = has_fields_of_declared(&linted.diagnostics);
+        let hint = hint_for(path, &linted);
         for diagnostic in linted.diagnostics {
             self.diagnostics.push(diagnostic)?;
         }
-        if is_exchanged {
-            self.note(
-                path,
-                "it has the fields of declared shapes; they are given by --declared",
-            )?;
+        match hint {
+            Some(hint) => self.note(path, hint),
+            None => Ok(()),
         }
-        Ok(())
     }
 
     /// Takes a definition without declared shapes.
@@ -151,6 +148,17 @@ impl Counts {
         } else {
             0
         }
+    }
+}
+
+/// What the text at that path seems to be, where it is hardly a definition in JSON.
+fn hint_for(path: &str, linted: &Linted) -> Option<&'static str> {
+    if has_fields_of_declared(&linted.diagnostics) {
+        Some("it has the fields of declared shapes; they are given by --declared")
+    } else if !linted.is_read && (path.ends_with(".yaml") || path.ends_with(".yml")) {
+        Some("YAML isn't read: make JSON of it first")
+    } else {
+        None
     }
 }
 
