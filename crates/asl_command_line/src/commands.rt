@@ -412,9 +412,19 @@ pub(crate) fn program<'a>(alloc: Global) -> Result<Command<'a>, AllocError> {
         .about("Check the data flow of workflows in Amazon States Language, and run them")
         .after_help(AFTER_HELP);
     for text in &COMMANDS {
-        program = program.subcommand(command(alloc, text)?)?;
+        program = with_command(alloc, program, text)?;
     }
     Ok(program)
+}
+
+/// The program with the command of that text.
+fn with_command<'a>(
+    alloc: Global,
+    program: Command<'a>,
+    text: &CommandText,
+) -> Result<Command<'a>, AllocError> {
+    let command = command(alloc, text)?;
+    program.subcommand(command)
 }
 
 /// The command of that name, named as behind the program's name.
@@ -423,9 +433,15 @@ pub(crate) fn command_named<'a>(
     name: &str,
 ) -> Result<Option<Command<'a>>, AllocError> {
     match COMMANDS.iter().find(|text| text.name == name) {
-        Some(text) => Ok(Some(command(alloc, text)?.bin_name(&format!(in alloc; "asl {name}")?)?)),
+        Some(text) => Ok(Some(command_behind(alloc, text)?)),
         None => Ok(None),
     }
+}
+
+/// The command of that text, named as behind the program's name.
+fn command_behind<'a>(alloc: Global, text: &CommandText) -> Result<Command<'a>, AllocError> {
+    let name = format!(in alloc; "asl {}", text.name)?;
+    command(alloc, text)?.bin_name(&name)
 }
 
 /// The command of that text.

@@ -25,8 +25,16 @@ enum Values<'a> {
     Unknown,
 }
 
-/// That something was put behind a text, or that there was no memory for it.
-type Pushed = Result<(), AllocError>;
+/// A script as far as it is written. Where there was no memory for a piece, nothing stands behind those in front of it, and
+/// there is no script in the end.
+#[derive(Drop)]
+struct Script<'c> {
+    text: String,
+    /// Whether there was memory for each piece.
+    is_whole: bool,
+    /// The names of the program's commands.
+    commands: &'c [&'c str],
+}
 
 /// The argument of the command for help.
 const TOPIC: &str = "subcommand";
@@ -40,12 +48,12 @@ pub fn print_completions<R: Print + Eprint + AllocGlobal>(rt: &R, shell: Shell) 
 ///
 /// Refused: Write; OutOfMemory.
 fn completions_on<R: Print + AllocGlobal>(rt: &R, shell: Shell) -> Result<u8, RunFault> {
-    print_text(rt, &script(rt.alloc(), shell)?)?;
+    print_text(rt, &script_text(rt.alloc(), shell)?)?;
     Ok(0)
 }
 
 /// The script for a shell.
-fn script(alloc: Global, shell: Shell) -> Result<String, OutOfMemory> {
+fn script_text(alloc: Global, shell: Shell) -> Result<String, OutOfMemory> {
     Ok(script_of_program(alloc, shell)?)
 }
 
@@ -77,11 +85,13 @@ fn names_of_commands<'a>(
 /// The script for a shell and a program.
 fn script_for(alloc: Global, shell: Shell, program: &Command<'_>) -> Result<String, AllocError> {
     let names = names_of_commands(alloc, program)?;
+    let mut script = Script::new(alloc, &names);
     match shell {
-        Shell::Bash => bash::script(alloc, program, &names),
-        Shell::Zsh => zsh::script(alloc, program, &names),
-        Shell::Fish => fish::script(alloc, program, &names),
+        Shell::Bash => bash::push_script(&mut script, program),
+        Shell::Zsh => zsh::push_script(&mut script, program),
+        Shell::Fish => fish::push_script(&mut script, program),
     }
+    script.into_text()
 }
 
 /// What a value of this argument may be, where the program has commands of these names.
@@ -114,28 +124,68 @@ fn has_several(argument: &Arg<'_>) -> bool {
         > 1
 }
 
-/// Puts the words, with a space between each two of them, behind the text, and what stands around them.
-fn push_words(text: &mut String, front: &str, words: &[&str], back: &str) -> Pushed {
-    text.push_str(front)?;
-    for (place, word) in words.iter().enumerate() {
-        if place > 0 {
-            text.push(' ')?;
+impl<'c> Script<'c> {
+    /// A script with nothing in it, for a program with commands of these names.
+    fn new(alloc: Global, commands: &'c [&'c str]) -> Script<'c> {
+        Script {
+            text: String::new(alloc),
+            is_whole: true,
+            commands,
         }
-        text.push_str(word)?;
     }
-    text.push_str(back)
-}
 
-/// Puts a description behind the text, as it stands within single quotes of a shell: an apostrophe leaves them, and a
-/// special character has a backslash in front.
-fn push_quoted(text: &mut String, description: &str, special: &str) -> Pushed {
-    for character in description.chars() {
-        if character == '\'' {
-            text.push_str("'\\'")?;
-        } else if special.contains(character) {
-            text.push('\\')?;
+    /// The text of the script; where there was no memory for all of it, that is refused.
+    fn into_text(self) -> Result<String, AllocError> {
+        if self.is_whole {
+            Ok(self.text)
+        } else {
+            Err(AllocError)
         }
-        text.push(character)?;
     }
-    Ok(())
+
+    /// Puts a piece behind the script.
+    fn push(&mut self, piece: &str) {
+        if self.is_whole {
+            self.is_whole = self.text.push_str(piece).is_ok();
+        }
+    }
+
+    /// Puts a character behind the script.
+    fn push_character(&mut self, character: char) {
+        if self.is_whole {
+            self.is_whole = self.text.push(character).is_ok();
+        }
+    }
+
+    /// Puts pieces behind the script.
+    fn push_all(&mut self, pieces: &[&str]) {
+        for piece in pieces {
+            self.push(piece);
+        }
+    }
+
+    /// Puts the words, with a space between each two of them, behind the script, and what stands around them.
+    fn push_words(&mut self, front: &str, words: &[&str], back: &str) {
+        self.push(front);
+        for (place, word) in words.iter().enumerate() {
+            if place > 0 {
+                self.push(" ");
+            }
+            self.push(word);
+        }
+        self.push(back);
+    }
+
+    /// Puts a description behind the script, as it stands within single quotes of a shell: an apostrophe leaves them, and a
+    /// special character has a backslash in front.
+    fn push_quoted(&mut self, description: &str, special: &str) {
+        for character in description.chars() {
+            if character == '\'' {
+                self.push("'\\'");
+            } else if special.contains(character) {
+                self.push("\\");
+            }
+            self.push_character(character);
+        }
+    }
 }

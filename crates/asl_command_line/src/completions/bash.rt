@@ -1,8 +1,7 @@
 //! The script for bash.
 
-use super::{Pushed, Values, has_value, push_words, values_of};
+use super::{Script, Values, has_value, values_of};
 use clap::{Arg, Command};
-use std::alloc::{AllocError, Global};
 
 /// What stands in front of the cases: which words are at hand.
 const HEAD: &str = r#"# Completions of asl for bash.
@@ -34,73 +33,69 @@ const TAIL: &str = r#"    esac
 complete -o bashdefault -o default -F _asl asl
 "#;
 
-/// The script for a program with commands of these names.
-pub(super) fn script(
-    alloc: Global,
-    program: &Command<'_>,
-    commands: &[&str],
-) -> Result<String, AllocError> {
-    let mut text = String::from_str(alloc, HEAD)?;
-    push_cases(&mut text, commands, program)?;
-    text.push_str(TAIL)?;
-    Ok(text)
+/// Puts the script for a program down.
+pub(super) fn push_script(script: &mut Script<'_>, program: &Command<'_>) {
+    script.push(HEAD);
+    push_cases(script, program);
+    script.push(TAIL);
 }
 
-/// Puts the cases of all commands behind the text, and the one where no command is there yet.
-fn push_cases(text: &mut String, commands: &[&str], program: &Command<'_>) -> Pushed {
+/// Puts the cases of all commands behind the script, and the one where no command is there yet.
+fn push_cases(script: &mut Script<'_>, program: &Command<'_>) {
     for command in program.get_subcommands() {
-        push_command(text, commands, command)?;
+        push_command(script, command);
     }
-    text.push_str("        \" \"*) options='")?;
-    push_options(text, program)?;
-    push_words(text, " values='", commands, "' ;;\n")
+    script.push("        \" \"*) options='");
+    push_options(script, program);
+    let commands = script.commands;
+    script.push_words(" values='", commands, "' ;;\n");
 }
 
-/// Puts the cases of a command behind the text. In front of its own stand those of its options that have a value.
-fn push_command(text: &mut String, commands: &[&str], command: &Command<'_>) -> Pushed {
+/// Puts the cases of a command behind the script. In front of its own stand those of its options that have a value.
+fn push_command(script: &mut Script<'_>, command: &Command<'_>) {
     let name = command.get_name();
     for argument in command.get_arguments() {
         if has_value(argument) {
-            push_option(text, commands, name, argument)?;
+            push_option(script, name, argument);
         }
     }
-    write!(text, "        \"{name} \"*) options='")?;
-    push_options(text, command)?;
-    match command.get_arguments().iter().find(|it| it.is_positional()) {
-        Some(argument) => push_values(text, commands, argument)?,
-        None => {}
+    script.push_all(&["        \"", name, " \"*) options='"]);
+    push_options(script, command);
+    if let Some(argument) = command.get_arguments().iter().find(|it| it.is_positional()) {
+        push_values(script, argument);
     }
-    text.push_str(" ;;\n")
+    script.push(" ;;\n");
 }
 
-/// Puts the case of an option that has a value behind the text.
-fn push_option(text: &mut String, commands: &[&str], command: &str, argument: &Arg<'_>) -> Pushed {
+/// Puts the case of an option that has a value behind the script.
+fn push_option(script: &mut Script<'_>, command: &str, argument: &Arg<'_>) {
     if let Some(long) = argument.get_long() {
-        write!(text, "        \"{command} --{long}\")")?;
-        push_values(text, commands, argument)?;
-        text.push_str(" ;;\n")?;
+        script.push_all(&["        \"", command, " --", long, "\")"]);
+        push_values(script, argument);
+        script.push(" ;;\n");
     }
-    Ok(())
 }
 
-/// Puts the options of a command behind the text, and the quote that ends them.
-fn push_options(text: &mut String, command: &Command<'_>) -> Pushed {
+/// Puts the options of a command behind the script, and the quote that ends them.
+fn push_options(script: &mut Script<'_>, command: &Command<'_>) {
     for argument in command.get_arguments() {
         if let Some(short) = argument.get_short() {
-            write!(text, "-{short} ")?;
+            script.push("-");
+            script.push_character(short);
+            script.push(" ");
         }
         if let Some(long) = argument.get_long() {
-            write!(text, "--{long} ")?;
+            script.push_all(&["--", long, " "]);
         }
     }
-    text.push('\'')
+    script.push("'");
 }
 
-/// Puts what a value of an argument may be behind the text.
-fn push_values(text: &mut String, commands: &[&str], argument: &Arg<'_>) -> Pushed {
-    match values_of(argument, commands) {
-        Values::Files => text.push_str(" files=yes"),
-        Values::Words(words) => push_words(text, " values='", words, "'"),
-        Values::Unknown => Ok(()),
+/// Puts what a value of an argument may be behind the script.
+fn push_values(script: &mut Script<'_>, argument: &Arg<'_>) {
+    match values_of(argument, script.commands) {
+        Values::Files => script.push(" files=yes"),
+        Values::Words(words) => script.push_words(" values='", words, "'"),
+        Values::Unknown => {}
     }
 }

@@ -1,8 +1,7 @@
 //! The script for fish.
 
-use super::{Pushed, Values, has_value, is_offered, push_quoted, push_words, values_of};
+use super::{Script, Values, has_value, is_offered, values_of};
 use clap::{Arg, Command};
-use std::alloc::{AllocError, Global};
 
 /// What stands in front: no files, where none are meant.
 const HEAD: &str = "\
@@ -13,87 +12,80 @@ complete -c asl -f
 /// Where no command is there yet.
 const FIRST: &str = "__fish_use_subcommand";
 
-/// The script for a program with commands of these names.
-pub(super) fn script(
-    alloc: Global,
-    program: &Command<'_>,
-    commands: &[&str],
-) -> Result<String, AllocError> {
-    let mut text = String::from_str(alloc, HEAD)?;
-    push_arguments(&mut text, commands, program, FIRST)?;
+/// Puts the script for a program down.
+pub(super) fn push_script(script: &mut Script<'_>, program: &Command<'_>) {
+    script.push(HEAD);
+    push_arguments(script, program, &[FIRST]);
     for command in program.get_subcommands() {
-        push_command(alloc, &mut text, commands, command)?;
+        push_command(script, command);
     }
-    Ok(text)
 }
 
-/// Puts the lines of a command behind the text: one that offers it, and one for each of its arguments.
-fn push_command(
-    alloc: Global,
-    text: &mut String,
-    commands: &[&str],
-    command: &Command<'_>,
-) -> Pushed {
+/// Puts the lines of a command behind the script: one that offers it, and one for each of its arguments.
+fn push_command(script: &mut Script<'_>, command: &Command<'_>) {
     let name = command.get_name();
-    write!(text, "complete -c asl -n {FIRST} -a {name}")?;
-    push_description(text, command.get_about())?;
-    let behind = format!(in alloc; "'__fish_seen_subcommand_from {name}'")?;
-    push_arguments(text, commands, command, &behind)
+    script.push_all(&["complete -c asl -n ", FIRST, " -a ", name]);
+    push_description(script, command.get_about());
+    push_arguments(
+        script,
+        command,
+        &["'__fish_seen_subcommand_from ", name, "'"],
+    );
 }
 
-/// Puts a line for each argument of a command that is offered behind the text, which holds under that condition.
-fn push_arguments(
-    text: &mut String,
-    commands: &[&str],
-    command: &Command<'_>,
-    condition: &str,
-) -> Pushed {
+/// Puts a line for each argument of a command that is offered behind the script, which holds under that condition.
+fn push_arguments(script: &mut Script<'_>, command: &Command<'_>, condition: &[&str]) {
     for argument in command.get_arguments() {
         if is_offered(argument) {
-            write!(text, "complete -c asl -n {condition}")?;
-            push_argument(text, commands, argument)?;
+            script.push("complete -c asl -n ");
+            script.push_all(condition);
+            push_argument(script, argument);
         }
     }
-    Ok(())
 }
 
-/// Puts what a line has of an argument behind the text.
-fn push_argument(text: &mut String, commands: &[&str], argument: &Arg<'_>) -> Pushed {
+/// Puts what a line has of an argument behind the script.
+fn push_argument(script: &mut Script<'_>, argument: &Arg<'_>) {
     if let Some(short) = argument.get_short() {
-        write!(text, " -s {short}")?;
+        script.push(" -s ");
+        script.push_character(short);
     }
     if let Some(long) = argument.get_long() {
-        write!(text, " -l {long}")?;
+        script.push_all(&[" -l ", long]);
     }
     if has_value(argument) {
-        text.push_str(" -r")?;
+        script.push(" -r");
     }
     if has_value(argument) || argument.is_positional() {
-        push_values(text, commands, argument)?;
+        push_values(script, argument);
     }
-    let help = if argument.is_positional() {
+    push_description(script, help_of(argument));
+}
+
+/// What is said of an argument: of an option its help.
+fn help_of<'a>(argument: &Arg<'a>) -> Option<&'a str> {
+    if argument.is_positional() {
         None
     } else {
         argument.get_help()
-    };
-    push_description(text, help)
-}
-
-/// Puts what a value of an argument may be behind the text.
-fn push_values(text: &mut String, commands: &[&str], argument: &Arg<'_>) -> Pushed {
-    match values_of(argument, commands) {
-        Values::Files => text.push_str(" -F"),
-        Values::Words(words) => push_words(text, " -f -a '", words, "'"),
-        Values::Unknown => text.push_str(" -f"),
     }
 }
 
-/// Puts a description, where there is one, and the end of the line behind the text.
-fn push_description(text: &mut String, description: Option<&str>) -> Pushed {
+/// Puts what a value of an argument may be behind the script.
+fn push_values(script: &mut Script<'_>, argument: &Arg<'_>) {
+    match values_of(argument, script.commands) {
+        Values::Files => script.push(" -F"),
+        Values::Words(words) => script.push_words(" -f -a '", words, "'"),
+        Values::Unknown => script.push(" -f"),
+    }
+}
+
+/// Puts a description, where there is one, and the end of the line behind the script.
+fn push_description(script: &mut Script<'_>, description: Option<&str>) {
     if let Some(description) = description {
-        text.push_str(" -d '")?;
-        push_quoted(text, description, "\\")?;
-        text.push('\'')?;
+        script.push(" -d '");
+        script.push_quoted(description, "\\");
+        script.push("'");
     }
-    text.push('\n')
+    script.push("\n");
 }

@@ -1,8 +1,7 @@
 //! The script for zsh.
 
-use super::{Pushed, Values, has_several, has_value, push_quoted, push_words, values_of};
+use super::{Script, Values, has_several, has_value, values_of};
 use clap::{Arg, Command};
-use std::alloc::{AllocError, Global};
 
 /// What stands in front of the options of the program.
 const HEAD: &str = r#"#compdef asl
@@ -44,127 +43,114 @@ fi
 /// What has a backslash in a description.
 const SPECIAL: &str = "[]:\\";
 
-/// The script for a program with commands of these names.
-pub(super) fn script(
-    alloc: Global,
-    program: &Command<'_>,
-    commands: &[&str],
-) -> Result<String, AllocError> {
-    let mut text = String::new(alloc);
-    push_first_word(&mut text, commands, program)?;
-    push_other_words(&mut text, commands, program)?;
-    Ok(text)
+/// Puts the script for a program down.
+pub(super) fn push_script(script: &mut Script<'_>, program: &Command<'_>) {
+    push_first_word(script, program);
+    push_other_words(script, program);
 }
 
-/// Puts what is offered where no command is there yet behind the text: the options of the program, and the commands.
-fn push_first_word(text: &mut String, commands: &[&str], program: &Command<'_>) -> Pushed {
-    text.push_str(HEAD)?;
-    push_arguments(text, commands, program)?;
-    text.push_str(COMMANDS)?;
-    push_names(text, program)
+/// Puts what is offered where no command is there yet behind the script: the options of the program, and the commands.
+fn push_first_word(script: &mut Script<'_>, program: &Command<'_>) {
+    script.push(HEAD);
+    push_arguments(script, program);
+    script.push(COMMANDS);
+    push_names(script, program);
 }
 
-/// Puts what is offered behind each command behind the text, and the end of the script.
-fn push_other_words(text: &mut String, commands: &[&str], program: &Command<'_>) -> Pushed {
-    text.push_str(ARGUMENTS)?;
+/// Puts what is offered behind each command behind the script, and its end.
+fn push_other_words(script: &mut Script<'_>, program: &Command<'_>) {
+    script.push(ARGUMENTS);
     for command in program.get_subcommands() {
-        push_case(text, commands, command)?;
+        push_case(script, command);
     }
-    text.push_str(TAIL)
+    script.push(TAIL);
 }
 
-/// Puts the case of a command behind the text.
-fn push_case(text: &mut String, commands: &[&str], command: &Command<'_>) -> Pushed {
+/// Puts the case of a command behind the script.
+fn push_case(script: &mut Script<'_>, command: &Command<'_>) {
     let name = command.get_name();
-    write!(
-        text,
-        "                {name})\n                    _arguments"
-    )?;
-    push_arguments(text, commands, command)?;
-    text.push_str("\n                    ;;\n")
+    script.push_all(&[
+        "                ",
+        name,
+        ")\n                    _arguments",
+    ]);
+    push_arguments(script, command);
+    script.push("\n                    ;;\n");
 }
 
-/// Puts the names of the commands, each with what it does, behind the text.
-fn push_names(text: &mut String, program: &Command<'_>) -> Pushed {
+/// Puts the names of the commands, each with what it does, behind the script.
+fn push_names(script: &mut Script<'_>, program: &Command<'_>) {
     for command in program.get_subcommands() {
-        let name = command.get_name();
-        write!(text, "                '{name}:")?;
-        push_quoted(text, command.get_about().unwrap_or(""), SPECIAL)?;
-        text.push_str("'\n")?;
+        script.push_all(&["                '", command.get_name(), ":"]);
+        script.push_quoted(command.get_about().unwrap_or(""), SPECIAL);
+        script.push("'\n");
     }
-    Ok(())
 }
 
-/// Puts the arguments of a command behind the text.
-fn push_arguments(text: &mut String, commands: &[&str], command: &Command<'_>) -> Pushed {
+/// Puts the arguments of a command behind the script.
+fn push_arguments(script: &mut Script<'_>, command: &Command<'_>) {
     for argument in command.get_arguments() {
         if argument.is_positional() {
-            push_positional(text, commands, argument)?;
+            push_positional(script, argument);
         } else {
-            push_option(text, commands, argument)?;
+            push_option(script, argument);
         }
     }
-    Ok(())
 }
 
-/// Puts an argument that has no name on the command line behind the text.
-fn push_positional(text: &mut String, commands: &[&str], argument: &Arg<'_>) -> Pushed {
-    text.push_str(if has_several(argument) { " '*" } else { " '" })?;
-    push_values(text, commands, argument)?;
-    text.push('\'')
+/// Puts an argument that has no name on the command line behind the script.
+fn push_positional(script: &mut Script<'_>, argument: &Arg<'_>) {
+    script.push(if has_several(argument) { " '*" } else { " '" });
+    push_values(script, argument);
+    script.push("'");
 }
 
-/// Puts an option behind the text, once for each of its names, of which only one is given.
-fn push_option(text: &mut String, commands: &[&str], argument: &Arg<'_>) -> Pushed {
+/// Puts an option behind the script, once for each of its names, of which only one is given.
+fn push_option(script: &mut Script<'_>, argument: &Arg<'_>) {
     if let Some(short) = argument.get_short() {
-        push_names_of(text, argument)?;
-        write!(text, "-{short}")?;
-        push_meaning(text, commands, argument)?;
-    }
-    match argument.get_long() {
-        Some(long) => push_long(text, commands, argument, long),
-        None => Ok(()),
-    }
-}
-
-/// Puts an option under its long name behind the text.
-fn push_long(text: &mut String, commands: &[&str], argument: &Arg<'_>, long: &str) -> Pushed {
-    let sign = if has_value(argument) { "=" } else { "" };
-    push_names_of(text, argument)?;
-    write!(text, "--{long}{sign}")?;
-    push_meaning(text, commands, argument)
-}
-
-/// Puts the names of an option behind the text, of which none is offered any more where one is given.
-fn push_names_of(text: &mut String, argument: &Arg<'_>) -> Pushed {
-    text.push_str(" '(")?;
-    if let Some(short) = argument.get_short() {
-        write!(text, "-{short} ")?;
+        push_names_of(script, argument);
+        script.push("-");
+        script.push_character(short);
+        push_meaning(script, argument);
     }
     if let Some(long) = argument.get_long() {
-        write!(text, "--{long}")?;
+        push_names_of(script, argument);
+        script.push_all(&["--", long, if has_value(argument) { "=" } else { "" }]);
+        push_meaning(script, argument);
     }
-    text.push(')')
 }
 
-/// Puts what an option means, and what its value may be, behind the text.
-fn push_meaning(text: &mut String, commands: &[&str], argument: &Arg<'_>) -> Pushed {
-    text.push('[')?;
-    push_quoted(text, argument.get_help().unwrap_or(""), SPECIAL)?;
-    text.push(']')?;
+/// Puts the names of an option behind the script, of which none is offered any more where one is given.
+fn push_names_of(script: &mut Script<'_>, argument: &Arg<'_>) {
+    script.push(" '(");
+    if let Some(short) = argument.get_short() {
+        script.push("-");
+        script.push_character(short);
+        script.push(" ");
+    }
+    if let Some(long) = argument.get_long() {
+        script.push_all(&["--", long]);
+    }
+    script.push(")");
+}
+
+/// Puts what an option means, and what its value may be, behind the script.
+fn push_meaning(script: &mut Script<'_>, argument: &Arg<'_>) {
+    script.push("[");
+    script.push_quoted(argument.get_help().unwrap_or(""), SPECIAL);
+    script.push("]");
     if has_value(argument) {
-        push_values(text, commands, argument)?;
+        push_values(script, argument);
     }
-    text.push('\'')
+    script.push("'");
 }
 
-/// Puts the name of a value and what it may be behind the text.
-fn push_values(text: &mut String, commands: &[&str], argument: &Arg<'_>) -> Pushed {
-    let name = argument.get_id();
-    write!(text, ":{name}:")?;
-    match values_of(argument, commands) {
-        Values::Files => text.push_str("_files"),
-        Values::Words(words) => push_words(text, "(", words, ")"),
-        Values::Unknown => text.push(' '),
+/// Puts the name of a value and what it may be behind the script.
+fn push_values(script: &mut Script<'_>, argument: &Arg<'_>) {
+    script.push_all(&[":", argument.get_id(), ":"]);
+    match values_of(argument, script.commands) {
+        Values::Files => script.push("_files"),
+        Values::Words(words) => script.push_words("(", words, ")"),
+        Values::Unknown => script.push(" "),
     }
 }
