@@ -1,14 +1,10 @@
-pub mod Bounds
 pub mod Copies
 pub mod Depths
-pub mod ExampleTrees
-pub mod Joins
 pub mod Lookups
 pub mod Mentions
 pub mod Merging
 pub mod Naming
 pub mod Orders
-pub mod OutsideTrees
 pub mod Places
 pub mod Requiring
 pub mod Sights

@@ -1,5 +1,4 @@
 pub mod Adding
-pub mod Changes
 pub mod Kinds
 pub mod Known
 pub mod Level

@@ -32,8 +32,9 @@ pub fn copy(alloc: Global, shape: &Shape) -> Result<Shape, OutOfMemory>
     }
 }
 
+/// An equal copy of what a shape takes of lists. An error only where an allocation is refused.
 #[cycle(copy)]
-pub(crate) fn copy_arrays(
+pub fn copy_arrays(
     alloc: Global,
     arrays: Option<Arrays<'_>>,
 ) -> Result<Option<OwnedArrays>, OutOfMemory>
@@ -49,8 +50,9 @@ pub(crate) fn copy_arrays(
     }
 }
 
+/// An equal copy of what a shape takes of objects. An error only where an allocation is refused.
 #[cycle(copy)]
-pub(crate) fn copy_objects(
+pub fn copy_objects(
     alloc: Global,
     objects: Option<Objects<'_>>,
 ) -> Result<Option<OwnedObjects>, OutOfMemory>

@@ -23,8 +23,9 @@ pub fn inhabited(shape: &Shape) -> bool
     is_inhabited(shape)
 }
 
+/// Whether some tree has the shape, as [`inhabited`] tells; where it does, its needed fields stand in order.
 #[cycle(inhabited)]
-pub(crate) fn is_inhabited(shape: &Shape) -> bool
+pub fn is_inhabited(shape: &Shape) -> bool
     ensures as_defined { result ≡ model.inhabited (view shape.now) }
     ensures orderly { IsTrue result → Orderly (view shape.now) }
 {
@@ -44,9 +45,9 @@ fn some_simple(kinds: &Kinds<'_>) -> bool
     kinds.null || kinds.boolean || kinds.integer || kinds.text
 }
 
-// Whether there is a list among them.
+/// Whether a shape takes a list, of what it takes of lists.
 #[cycle(inhabited)]
-pub(crate) fn some_array(arrays: Option<Arrays<'_>>) -> bool
+pub fn some_array(arrays: Option<Arrays<'_>>) -> bool
     ensures as_defined { result ≡ model.some_array (arrays_view arrays.entry) }
     ensures orderly { IsTrue result → OrderlyArrays (arrays_view arrays.entry) }
 {
@@ -56,9 +57,9 @@ pub(crate) fn some_array(arrays: Option<Arrays<'_>>) -> bool
     }
 }
 
-// Whether there is an object among them.
+/// Whether a shape takes an object, of what it takes of objects.
 #[cycle(inhabited)]
-pub(crate) fn some_object(objects: Option<Objects<'_>>) -> bool
+pub fn some_object(objects: Option<Objects<'_>>) -> bool
     ensures as_defined { result ≡ model.some_object (objects_view objects.entry) }
     ensures orderly { IsTrue result → OrderlyObjects (objects_view objects.entry) }
 {
@@ -68,9 +69,9 @@ pub(crate) fn some_object(objects: Option<Objects<'_>>) -> bool
     }
 }
 
-// Whether each of the shapes is inhabited.
+/// Whether some tree has each of the shapes.
 #[cycle(inhabited)]
-pub(crate) fn all_inhabited(shapes: &[Shape]) -> bool
+pub fn all_inhabited(shapes: &[Shape]) -> bool
     ensures as_defined { result ≡ model.all_inhabited (shapes_view shapes.now) }
     ensures orderly { IsTrue result → AllOrderly (shapes_view shapes.now) }
 {
@@ -82,10 +83,10 @@ pub(crate) fn all_inhabited(shapes: &[Shape]) -> bool
     true
 }
 
-// Whether the shape of each needed field is inhabited.
+/// Whether some tree has the shape of each needed field.
 #[tactic(auto, using(crate::proofs::Depths::fields_left_depth))]
 #[cycle(inhabited)]
-pub(crate) fn needed_inhabited(fields: &BTreeMap<String, Field>) -> bool
+pub fn needed_inhabited(fields: &BTreeMap<String, Field>) -> bool
     ensures as_defined { result ≡ model.needed_inhabited (fields_view fields.now.entries) }
     ensures in_order { AreInOrder (fields_view fields.now.entries) }
     ensures orderly { IsTrue result → NeededOrderly (fields_view fields.now.entries) }

@@ -1,22 +1,17 @@
-//! Shapes of trees: reading and writing them, membership, comparing, copying and joining them.
+//! Shapes of trees: reading and writing them, membership, inhabitants, and copies of them.
 //!
 //! A [`Shape`] says which trees are meant (a subset of JSON Schema 2020-12). [`read`] makes one of the tree that spells
 //! it, [`read_level`] tells one [`Level`] of such a tree; [`read_v1`] refuses lists of types. [`has`] tests a tree,
-//! [`inhabited`] whether there is one at all, [`sub`] whether one shape is inside another, [`same`] whether they are
-//! equal. [`example`] makes a tree of a shape, [`outside`] a tree of one shape that lacks another. [`copy`] makes an equal
-//! shape, [`join`] one that two are inside, [`write`] the tree that spells it. [`write_kinds`] writes one level of a shape,
-//! where the trees of its parts are given. [`take_apart`] tells what a shape takes of each kind of tree, [`of_kinds`]
-//! makes a shape of that, and [`proper`] tests whether the shapes of several kinds in one are as they should be.
+//! [`inhabited`] whether there is one at all. [`copy`] makes an equal shape, [`write`] the tree that spells it.
+//! [`write_kinds`] writes one level of a shape, where the trees of its parts are given. [`take_apart`] tells what a shape
+//! takes of each kind of tree, [`of_kinds`] makes a shape of that, and [`proper`] tests whether the shapes of several kinds
+//! in one are as they should be. Two shapes are compared and joined in `asl_shape_order`.
 #![tactic(auto)]
 
 ghost use Rattle.std.specs.Prelude.{◌≡◌};
 
-mod comparing;
 mod copying;
-mod equality;
-mod examples;
 mod inhabiting;
-mod joining;
 mod kinds;
 mod levels;
 mod membership;
@@ -26,18 +21,16 @@ mod shape;
 mod writing;
 
 use asl_tree::WantOfMemory;
-pub use comparing::sub;
-pub use copying::copy;
-pub use equality::same;
-pub use examples::{example, outside};
-pub use inhabiting::inhabited;
-pub use joining::join;
+pub use copying::{copy, copy_arrays, copy_objects};
+pub use inhabiting::{
+    all_inhabited, inhabited, is_inhabited, needed_inhabited, some_array, some_object,
+};
 pub use kinds::{
     Arrays, Kinds, Objects, OwnedArrays, OwnedKinds, OwnedObjects, of_kinds, take_apart,
 };
 pub use levels::{Level, ListLevel, ObjectLevel, read_level};
 pub use membership::has;
-pub use properness::proper;
+pub use properness::{names_in_order, proper};
 pub use reading::{read, read_v1};
 pub use shape::{Field, Shape};
 pub use writing::{Written, WrittenArrays, WrittenObjects, write, write_kinds};

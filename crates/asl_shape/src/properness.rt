@@ -34,8 +34,8 @@ fn is_well_formed(shape: &Shape) -> bool
     }
 }
 
-// Goes over the shape, so that it is known that its names are UTF-8 and stand in order.
-pub(crate) fn names_in_order(shape: &Shape)
+/// Goes over the shape, so that it is known that its names are UTF-8 and stand in order.
+pub fn names_in_order(shape: &Shape)
     ensures proper { model.IsProperShape (view shape.now) }
     ensures ordered { model.IsOrdered (view shape.now) }
 {

@@ -1,0 +1,4 @@
+pub mod Bounds
+pub mod ExampleTrees
+pub mod Joins
+pub mod OutsideTrees
