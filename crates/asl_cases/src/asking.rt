@@ -2,13 +2,13 @@
 
 ghost use Rattle.std.specs.Prelude.{◌≡◌, ℕ, List, map, slice_get};
 ghost use Rattle.asl_run.specs.Entries.{entry_view};
-ghost use Rattle.asl_states.specs.Table.{table_view};
+ghost use Rattle.asl_machine_table.specs.Table.{table_view};
 ghost use Rattle.asl_suites.specs.View.{answers_under};
 ghost use Rattle.asl_cases.specs.Asking.{IsTurnOf, are_by_item, is_attempt, is_item, is_map, item_at};
 ghost use Rattle.asl_cases.specs.Stepping.{place_asked, place_in};
 
+use asl_machine_table::Machine;
 use asl_run::Entry;
-use asl_states::Machine;
 use asl_suites::CaseAnswers;
 
 /// The place of the task that was asked last: while each is answered before anything else happens, it is the one that

@@ -2,7 +2,7 @@
 
 ghost use Rattle.std.specs.Prelude.{◌≡◌, ◌∷◌, ◌++◌, ◌↔◌, [], IfOk, length, map, option_map};
 ghost use Rattle.asl_model.specs.Tree.{Object, NoFields};
-ghost use Rattle.asl_states.specs.Table.{table_view};
+ghost use Rattle.asl_machine_table.specs.Table.{table_view};
 ghost use Rattle.asl_tree.specs.View.{view};
 ghost use Rattle.asl_run.specs.Entries.{entry_view};
 ghost use Rattle.asl_run.specs.Driving.{Told};
@@ -10,8 +10,8 @@ ghost use Rattle.asl_cases.specs.Coverage.{AreFlagsOf, IsCovered, IsCoverageOf, 
 
 use crate::covered::Covered;
 use crate::lacking::push_lacking;
+use asl_machine_table::Machine;
 use asl_run::Entry;
-use asl_states::Machine;
 use asl_tree::{OutOfMemory, Tree, quoted};
 use std::alloc::Global;
 use std::collections::BTreeMap;

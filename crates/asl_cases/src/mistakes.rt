@@ -2,7 +2,7 @@
 
 use crate::asking::stands_in_map;
 use crate::words::counted;
-use asl_states::Machine;
+use asl_machine_table::Machine;
 use asl_suites::{CaseAnswers, Expected, ExpectedPayloads};
 use asl_tree::{OutOfMemory, quoted};
 use std::alloc::Global;

@@ -1,7 +1,7 @@
 //! Playing a case: a machine runs on its input, with its answers.
 
 ghost use Rattle.std.specs.Prelude.{◌≡◌, map, option_and_then, option_map, IfOk};
-ghost use Rattle.asl_states.specs.Table.{Shows};
+ghost use Rattle.asl_machine_table.specs.Table.{Shows};
 ghost use Rattle.asl_model.specs.Certificate.{gives_of};
 ghost use Rattle.asl_model.specs.Machine.{Scope};
 ghost use Rattle.asl_model.specs.Run as model;
@@ -17,10 +17,10 @@ ghost use Rattle.asl_cases.specs.Playing.{ComesTo, IsRun, case_of, fits_input, s
 ghost use Rattle.asl_cases.specs.Stepping.{EndsWith, IsAsked, IsGoing, StepsTo, TakesSo, fits_task};
 
 use crate::asking::{asked_place, item_at, turn_of};
+use asl_machine_table::Machine;
 use asl_records::Declared;
 use asl_run::{Answer, Entry, Event, First, ListAnswers, Outcome, Run, Stop, drive, start};
 use asl_shape::has;
-use asl_states::Machine;
 use asl_suites::CaseAnswers;
 use asl_tree::{OutOfMemory, Tree};
 use std::alloc::Global;

@@ -1,7 +1,7 @@
 //! What is known of a machine by a certificate, and what is told of it.
 
 ghost use Rattle.std.specs.Prelude.{◌≡◌, ◌≢◌, ◌↔◌, [], IfOk, IsTrue};
-ghost use Rattle.asl_states.specs.Table.{table_view};
+ghost use Rattle.asl_machine_table.specs.Table.{table_view};
 ghost use Rattle.asl_check.specs.Told.{listed};
 ghost use Rattle.asl_records.specs.Numbered.{AreWithin, numbered_view};
 ghost use Rattle.asl_records.specs.View.{declared_view};

@@ -9,7 +9,7 @@ use Rattle.asl_model.specs.Numbering.{Placement}
 use Rattle.asl_model.specs.Shape.{Shape}
 use Rattle.asl_numbered.specs.Expansion.{shape_at, Keeps}
 use Rattle.asl_numbered.specs.Laws.{keeps_trans, kept_shape, kept_within}
-use Rattle.asl_states.specs.Table.{table_view}
+use Rattle.asl_machine_table.specs.Table.{table_view}
 use Rattle.asl_tree.specs.declared.OutOfMemory.{OutOfMemory}
 use Rattle.asl_records.specs.Numbered.{AreNumbersBelow, numbers_view}
 use Rattle.asl_records.specs.declared.records.StateNumbers.{StateNumbers}

@@ -7,8 +7,8 @@ use Rattle.asl_model.specs.Finding.{Finding, findings, Stands}
 use Rattle.asl_model.specs.FindingRules.{IsBroken}
 use Rattle.asl_model.specs.Numbering.{Table}
 use Rattle.asl_model.specs.Verdict.{Accepted, Rejected, AreInNameOrder, IsRight, TellsOf}
-use Rattle.asl_states.specs.Table.{Shows, table_view}
-use Rattle.asl_states.specs.declared.machine.Machine.{Machine}
+use Rattle.asl_machine_table.specs.Table.{Shows, table_view}
+use Rattle.asl_machine_table.specs.declared.machine.Machine.{Machine}
 use Rattle.asl_check.specs.Noting.{AreNoted}
 use Rattle.asl_check.specs.Told.{listed, first_of, AreFirst}
 use Rattle.asl_check.proofs.FirstOf.{first_in_order, first_there, some_first}

@@ -5,7 +5,7 @@ use Rattle.asl_model.specs.Edges as model
 use Rattle.asl_model.specs.Finding.{PathMayBeMissing}
 use Rattle.asl_model.specs.Shape.{Shape}
 use Rattle.asl_numbered.specs.Expansion.{shape_at}
-use Rattle.asl_states.specs.Table.{table_view}
+use Rattle.asl_machine_table.specs.Table.{table_view}
 use Rattle.asl_state_edges.specs.View.{finding_fault_view}
 use Rattle.asl_state_edges.specs.declared.found.Edge.{Edge}
 use Rattle.asl_state_edges.specs.declared.found.Step.{Step}

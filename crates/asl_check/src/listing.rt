@@ -6,7 +6,7 @@ ghost use Rattle.asl_model.specs.Finding.{StartInput, breach_unless_sub};
 ghost use Rattle.asl_model.specs.Shape as model;
 ghost use Rattle.asl_numbered.specs.Expansion.{Keeps};
 ghost use Rattle.asl_shape.specs.View.{view};
-ghost use Rattle.asl_states.specs.Table.{table_view};
+ghost use Rattle.asl_machine_table.specs.Table.{table_view};
 ghost use Rattle.asl_records.specs.View.{declared_view};
 ghost use Rattle.asl_check.specs.Faults.{fault_view, IsFaultBelow};
 ghost use Rattle.asl_check.specs.Listing.{Adds, rules_view, AreRulesBelow};

@@ -5,13 +5,14 @@ ghost use Rattle.asl_model.specs.Certificate.{certified, child_end};
 ghost use Rattle.asl_model.specs.Shape.{Shape};
 ghost use Rattle.asl_numbered.specs.Expansion.{shape_at};
 ghost use Rattle.asl_states.specs.Machine.{kind_view, scope_view};
-ghost use Rattle.asl_states.specs.Table.{table_view};
+ghost use Rattle.asl_machine_table.specs.Table.{table_view};
 ghost use Rattle.asl_check.specs.Checking.{row_view};
 ghost use Rattle.asl_check.specs.Numbers.{IsWithin, certificate_of};
 ghost use Rattle.asl_check.specs.Rules.{end_in, inputs_in, names_task_in, row_at, start_in};
 
 use crate::checker::Checker;
-use asl_states::{Kind, Machine, Scope, State};
+use asl_machine_table::Machine;
+use asl_states::{Kind, Scope, State};
 
 /// A state of the machine: its name, itself, and the scope that it stands in.
 #[derive(Clone, Copy)]

@@ -6,7 +6,7 @@ ghost use Rattle.asl_model.specs.Finding.{found_at};
 ghost use Rattle.asl_model.specs.Shape as model;
 ghost use Rattle.asl_numbered.specs.Expansion.{Keeps};
 ghost use Rattle.asl_states.specs.Machine.{kind_view, scope_view, settings_view};
-ghost use Rattle.asl_states.specs.Table.{table_view};
+ghost use Rattle.asl_machine_table.specs.Table.{table_view};
 ghost use Rattle.asl_records.specs.Numbered.{AreNumbersBelow, numbers_view};
 ghost use Rattle.asl_records.specs.View.{declared_view};
 ghost use Rattle.asl_check.specs.Checking.{row_view};

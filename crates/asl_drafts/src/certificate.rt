@@ -4,14 +4,15 @@ ghost use Rattle.std.specs.Prelude.{◌<◌, length, suc, IfOk, OnOk};
 ghost use Rattle.asl_model.specs.Shape.{Never};
 ghost use Rattle.asl_numbered.specs.Expansion.{Shows};
 ghost use Rattle.asl_states.specs.Machine.{kind_view};
-ghost use Rattle.asl_states.specs.Table.{table_view};
+ghost use Rattle.asl_machine_table.specs.Table.{table_view};
 ghost use Rattle.asl_drafts.specs.Certified.{AreCertified, AreNumbersOf, IsCertified};
 
 use crate::draft::Draft;
 use crate::entries::entry_in;
+use asl_machine_table::Machine;
 use asl_records::StateNumbers;
 use asl_state_edges::Entry;
-use asl_states::{Kind, Machine};
+use asl_states::Kind;
 use asl_tree::OutOfMemory;
 use std::alloc::Global;
 use std::collections::BTreeMap;

@@ -7,10 +7,11 @@ use crate::entries::{DraftEntry, EntryNumbers, Part, entry_in, new_entries, take
 use crate::growing::Growing;
 use crate::store::Store;
 use asl_flow::DoubtfulPath;
+use asl_machine_table::Machine;
 use asl_numbered::Node;
 use asl_records::{NumberedCertificate, StateNumbers};
 use asl_state_edges::Step;
-use asl_states::{Machine, State};
+use asl_states::State;
 use asl_tree::{OutOfMemory, Tree};
 use std::alloc::Global;
 use std::collections::BTreeMap;
@@ -70,7 +71,7 @@ impl Draft {
     ghost use Rattle.asl_flow.specs.Doubts.{doubtful_view};
     ghost use Rattle.asl_state_edges.specs.View.{steps_of, AreStepsBelow};
     ghost use Rattle.asl_states.specs.Machine.{kind_view, settings_view};
-    ghost use Rattle.asl_states.specs.Table.{table_view};
+    ghost use Rattle.asl_machine_table.specs.Table.{table_view};
     ghost use Rattle.asl_numbered.specs.Expansion.{shape_at, Keeps, Shows};
     ghost use Rattle.asl_records.specs.Numbered.{numbered_view, AreWithin};
     ghost use Rattle.asl_drafts.specs.Cutting.{IsShallow};

@@ -7,7 +7,7 @@ ghost use Rattle.asl_model.specs.Shape.{Shape};
 ghost use Rattle.asl_state_edges.specs.Entry.{entry_view as shapes_view, IsEntryBelow};
 ghost use Rattle.asl_model.specs.Machine.{kind_of};
 ghost use Rattle.asl_states.specs.Machine.{kind_view};
-ghost use Rattle.asl_states.specs.Table.{table_view};
+ghost use Rattle.asl_machine_table.specs.Table.{table_view};
 ghost use Rattle.asl_numbered.specs.Expansion.{shape_at, Keeps};
 ghost use Rattle.asl_drafts.specs.Entries.{AreAllBelow, AreNumbersIn, Makes};
 ghost use Rattle.asl_drafts.specs.Entries.{ends_room, ends_view, entries_room, entries_view, entry_room, entry_view};
@@ -16,8 +16,9 @@ ghost use Rattle.asl_drafts.specs.Growing.{AreGrown, AreEndsGrown, IsEntryGrown}
 
 use crate::growing::Growing;
 use crate::store::Store;
+use asl_machine_table::Machine;
 use asl_state_edges::Entry;
-use asl_states::{Kind, Machine};
+use asl_states::Kind;
 use asl_tree::OutOfMemory;
 use std::alloc::Global;
 

@@ -3,10 +3,10 @@
 ghost use Rattle.std.specs.Prelude.{◌≡◌, IfOk, map};
 ghost use Rattle.asl_model.specs.ShapeSpelling.{are_distinct};
 ghost use Rattle.asl_draft_laws.specs.Drafts.{rows_of};
-ghost use Rattle.asl_states.specs.Table.{table_view};
+ghost use Rattle.asl_machine_table.specs.Table.{table_view};
 ghost use Rattle.asl_drafts.specs.Order.{AreOrdered, IsPlaced};
 
-use asl_states::Machine;
+use asl_machine_table::Machine;
 use asl_tree::OutOfMemory;
 use std::alloc::Global;
 use std::collections::BTreeMap;

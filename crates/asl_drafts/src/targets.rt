@@ -4,12 +4,12 @@ ghost use Rattle.std.specs.Prelude.{◌≡◌, option_map};
 ghost use Rattle.asl_model.specs.Edges as model;
 ghost use Rattle.asl_draft_laws.specs.Drafts as drafts;
 ghost use Rattle.asl_state_edges.specs.View.{destination_view};
-ghost use Rattle.asl_states.specs.Table.{table_view};
+ghost use Rattle.asl_machine_table.specs.Table.{table_view};
 ghost use Rattle.asl_drafts.specs.Drafted.{target_view};
 
 use crate::draft::Target;
+use asl_machine_table::Machine;
 use asl_state_edges::Destination;
-use asl_states::Machine;
 
 /// The shape that an edge of the state of that number leads to. None where the edge leads to a task, or to a state that
 /// the machine hasn't.

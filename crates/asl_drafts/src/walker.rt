@@ -6,8 +6,8 @@ use crate::draft::{Draft, Target};
 use crate::predecessors::{Origin, Predecessors};
 use crate::targets::target_of;
 use crate::waiting::Waiting;
+use asl_machine_table::Machine;
 use asl_state_edges::{Edge, Step};
-use asl_states::Machine;
 use asl_tree::OutOfMemory;
 
 /// A draft, the states that are still to be walked, and what has flowed into its shapes.
@@ -24,7 +24,7 @@ impl Walker {
     ghost use Rattle.asl_model.specs.Numbering.{Table};
     ghost use Rattle.asl_draft_laws.specs.Drafts.{step_taken, steps_taken, taken_at, Row};
     ghost use Rattle.asl_state_edges.specs.View.{edge_view, step_view, steps_of, AreStepsBelow, IsStepBelow};
-    ghost use Rattle.asl_states.specs.Table.{table_view};
+    ghost use Rattle.asl_machine_table.specs.Table.{table_view};
     ghost use Rattle.asl_drafts.specs.Calm.{IsCalm};
     ghost use Rattle.asl_drafts.specs.Underway.{IsCalmAfter, OthersStayCalm, StepsOn};
     ghost use Rattle.asl_numbered.specs.Expansion.{shape_at, Keeps};

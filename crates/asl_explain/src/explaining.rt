@@ -1,7 +1,7 @@
 //! From texts to explanations.
 
 ghost use Rattle.std.specs.Prelude.{◌≡◌, ◌↔◌, IfErr, IfNone, IfOk, IfSome, None, Ok};
-ghost use Rattle.asl_states.specs.Table.{Shows};
+ghost use Rattle.asl_machine_table.specs.Table.{Shows};
 ghost use Rattle.asl_model.specs.Machine.{Scope};
 ghost use Rattle.asl_model.specs.Names.{Bytes};
 ghost use Rattle.asl_model.specs.Numbering.{table_of};

@@ -3,10 +3,10 @@
 ghost use Rattle.asl_records.specs.Numbered.{AreWithin};
 
 use crate::words::cut;
+use asl_machine_table::Machine;
 use asl_notation::{Limits, note};
 use asl_numbered::Shapes;
 use asl_records::{Declared, NumberedCertificate};
-use asl_states::Machine;
 use asl_tree::OutOfMemory;
 use asl_ways::{Arrival, Exit, arrivals};
 use std::alloc::Global;

@@ -11,7 +11,7 @@ use crate::known::Known;
 use crate::order::written_order;
 use crate::picture::Format;
 use crate::scopes::Scopes;
-use asl_states::Machine;
+use asl_machine_table::Machine;
 use asl_texts::{RunFault, Subject, read_definition, read_subject};
 use asl_tree::OutOfMemory;
 use std::alloc::Global;

@@ -3,7 +3,7 @@
 ghost use Rattle.std.specs.Prelude.{IfNone, IfOk, IfSome};
 ghost use Rattle.asl_model.specs.Machine.{Scope};
 ghost use Rattle.asl_model.specs.Numbering.{table_of};
-ghost use Rattle.asl_states.specs.Table.{Shows};
+ghost use Rattle.asl_machine_table.specs.Table.{Shows};
 ghost use Rattle.asl_infer.specs.Lenient.{NeverSettlesLeniently};
 ghost use Rattle.asl_records.specs.Numbered.{AreWithin};
 ghost use Rattle.asl_records.specs.View.{declared_view};
@@ -13,8 +13,8 @@ use crate::flows::Flows;
 use crate::picture::Look;
 use asl_check::{Located, find_all};
 use asl_infer::infer_leniently;
+use asl_machine_table::Machine;
 use asl_records::{Declared, NumberedCertificate};
-use asl_states::Machine;
 use asl_tree::OutOfMemory;
 use std::alloc::Global;
 

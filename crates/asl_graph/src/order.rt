@@ -1,7 +1,7 @@
 //! The order in which states stand in a definition's text.
 
+use asl_machine_table::Machine;
 use asl_places::{Outline, OutlineRefusal, States};
-use asl_states::Machine;
 use asl_tree::OutOfMemory;
 use json::Scratch;
 use std::alloc::Global;

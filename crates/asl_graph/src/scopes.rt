@@ -1,6 +1,7 @@
 //! The states of each scope.
 
-use asl_states::{Machine, Scope};
+use asl_machine_table::Machine;
+use asl_states::Scope;
 use asl_tree::OutOfMemory;
 use std::alloc::Global;
 use std::collections::BTreeMap;

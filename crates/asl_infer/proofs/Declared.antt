@@ -8,7 +8,7 @@ use Rattle.asl_numbered.specs.Expansion.{Keeps, Shows}
 use Rattle.asl_records.specs.View.{task_view}
 use Rattle.asl_records.specs.declared.records.Declared as code
 use Rattle.asl_records.specs.declared.records.TaskShapes.{TaskShapes}
-use Rattle.asl_states.specs.declared.machine.Machine.{Machine}
+use Rattle.asl_machine_table.specs.declared.machine.Machine.{Machine}
 use Rattle.asl_shape.specs.View.{view}
 use Rattle.asl_infer.specs.Rounds.{IsGiven, IsGivenOf, IsRowOf, declared_in, table_in}
 use Rattle.asl_infer.specs.Tasks.{IsTaskOf, AreTasks}

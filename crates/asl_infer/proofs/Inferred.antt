@@ -19,8 +19,8 @@ use Rattle.asl_records.specs.Numbered.{numbered_view}
 use Rattle.asl_records.specs.declared.records.NumberedCertificate.{NumberedCertificate}
 use Rattle.asl_records.specs.View.{declared_view}
 use Rattle.asl_records.specs.declared.records.Declared as code
-use Rattle.asl_states.specs.Table.{Shows, table_view}
-use Rattle.asl_states.specs.declared.machine.Machine.{Machine}
+use Rattle.asl_machine_table.specs.Table.{Shows, table_view}
+use Rattle.asl_machine_table.specs.declared.machine.Machine.{Machine}
 use Rattle.asl_check.specs.View.{finding_view}
 use Rattle.asl_check.proofs.TableEnds.{distinct}
 use Rattle.asl_check.proofs.TableNames.{task-named}

@@ -15,8 +15,8 @@ use Rattle.asl_records.specs.Numbered.{numbered_view}
 use Rattle.asl_records.specs.View.{declared_view}
 use Rattle.asl_records.specs.declared.records.Declared as code
 use Rattle.asl_records.specs.declared.records.NumberedCertificate.{NumberedCertificate}
-use Rattle.asl_states.specs.Table.{Shows, table_view}
-use Rattle.asl_states.specs.declared.machine.Machine.{Machine}
+use Rattle.asl_machine_table.specs.Table.{Shows, table_view}
+use Rattle.asl_machine_table.specs.declared.machine.Machine.{Machine}
 use Rattle.asl_drafts.specs.Cutting.{IsShallow}
 use Rattle.asl_infer.specs.Inferring.{certified_shapes}
 use Rattle.asl_infer.specs.Lenient.{IsInferredLeniently, NeverSettlesLeniently}

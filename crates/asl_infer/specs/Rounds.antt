@@ -14,8 +14,8 @@ use Rattle.asl_numbered.specs.Expansion.{Shows}
 use Rattle.asl_records.specs.View.{declared_view}
 use Rattle.asl_records.specs.declared.records.Declared.{Declared}
 use Rattle.asl_states.specs.Machine.{state_view}
-use Rattle.asl_states.specs.Table.{table_view}
-use Rattle.asl_states.specs.declared.machine.Machine.{Machine}
+use Rattle.asl_machine_table.specs.Table.{table_view}
+use Rattle.asl_machine_table.specs.declared.machine.Machine.{Machine}
 use Rattle.asl_state_edges.specs.View.{steps_of}
 use Rattle.asl_state_edges.specs.declared.found.Step.{Step}
 use Rattle.asl_drafts.specs.Calm.{IsCalm}

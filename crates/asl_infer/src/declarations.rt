@@ -3,7 +3,7 @@
 ghost use Rattle.std.specs.Prelude.{◌≡◌, option_map, IfErr, OnOk};
 ghost use Rattle.asl_draft_laws.specs.Drafts.{rows_of, undeclared, unknown};
 ghost use Rattle.asl_records.specs.View.{declared_view};
-ghost use Rattle.asl_states.specs.Table.{table_view};
+ghost use Rattle.asl_machine_table.specs.Table.{table_view};
 ghost use Rattle.asl_check.specs.Rules.{names_task_in};
 ghost use Rattle.asl_drafts.specs.Order.{AreOrdered};
 ghost use Rattle.asl_infer.specs.Declarations.{AreNamed, IsFirst, IsFirstAt, IsFirstOf, NamesTell};
@@ -11,9 +11,9 @@ ghost use Rattle.asl_infer.specs.Declarations.{first_of, misnamed_view};
 
 use crate::inferring::InferRefusal;
 use crate::telling::{Breach, finding};
+use asl_machine_table::Machine;
 use asl_records::Declared;
 use asl_state_edges::FindingFault;
-use asl_states::Machine;
 use std::alloc::Global;
 
 /// A name for which a rule about what is declared is broken. No tree shows that.

@@ -10,7 +10,7 @@ ghost use Rattle.asl_model.specs.Numbering.{table_of};
 ghost use Rattle.asl_model.specs.RecordShapes.{HoldsForCertificate};
 ghost use Rattle.asl_model.specs.Written.{written_certificate};
 ghost use Rattle.asl_draft_laws.specs.Drafts.{IsInferred};
-ghost use Rattle.asl_states.specs.Table.{Shows, table_view};
+ghost use Rattle.asl_machine_table.specs.Table.{Shows, table_view};
 ghost use Rattle.asl_records.specs.Numbered.{numbered_view, AreWithin};
 ghost use Rattle.asl_records.specs.View.{declared_view};
 ghost use Rattle.asl_drafts.specs.Cutting.{IsShallow};
@@ -21,8 +21,8 @@ ghost use Rattle.asl_infer.specs.Rounds.{AnswersLeniently, IsSettledOrNot};
 use crate::inferring::{InferRefusal, begin};
 use crate::rounds::Strictness;
 use asl_drafts::order_of;
+use asl_machine_table::Machine;
 use asl_records::{Declared, NumberedCertificate};
-use asl_states::Machine;
 use asl_tree::OutOfMemory;
 use std::alloc::Global;
 

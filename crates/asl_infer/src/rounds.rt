@@ -15,9 +15,10 @@ use crate::inferring::InferRefusal;
 use crate::tasks::{TaskNumbers, task_numbers};
 use crate::telling::{finding, first_broken};
 use asl_drafts::{Draft, Store, Target, Walker};
+use asl_machine_table::Machine;
 use asl_records::Declared;
 use asl_state_edges::Step;
-use asl_states::{Machine, State};
+use asl_states::State;
 use asl_tree::OutOfMemory;
 use std::alloc::Global;
 

@@ -3,13 +3,13 @@
 ghost use Rattle.std.specs.Prelude.{◌≡◌, length, IfOk};
 ghost use Rattle.asl_numbered.specs.Expansion.{Keeps};
 ghost use Rattle.asl_records.specs.View.{declared_view};
-ghost use Rattle.asl_states.specs.Table.{table_view};
+ghost use Rattle.asl_machine_table.specs.Table.{table_view};
 ghost use Rattle.asl_infer.specs.Tasks.{AreTasks, IsTaskOf};
 
 use asl_drafts::Store;
+use asl_machine_table::Machine;
 use asl_numbered::Node;
 use asl_records::Declared;
-use asl_states::Machine;
 use asl_tree::OutOfMemory;
 use std::alloc::Global;
 

@@ -3,8 +3,8 @@ use Rattle.std.proofs.Common.{◌≡◌, ℕ, List, [], ◌∷◌, ◌++◌, sym
 use Rattle.asl_model.specs.Machine.{Scope}
 use Rattle.asl_model.specs.Names.{Bytes}
 use Rattle.asl_model.specs.Texts.{ReadsAsDeclared}
-use Rattle.asl_states.specs.Table.{Shows}
-use Rattle.asl_states.specs.declared.machine.Machine.{Machine}
+use Rattle.asl_machine_table.specs.Table.{Shows}
+use Rattle.asl_machine_table.specs.declared.machine.Machine.{Machine}
 use Rattle.asl_records.specs.View.{declared_view}
 use Rattle.asl_records.specs.declared.records.Declared.{Declared}
 use Rattle.asl_texts.specs.Verifying.{ReadsInto}

@@ -1,7 +1,7 @@
 //! What is wrong with a machine that is read, by the certificate that is inferred of it.
 ghost use Rattle.std.specs.Prelude.{◌≡◌, ◌∷◌, [], IfOk, IfSome, map};
 ghost use Rattle.asl_model.specs.Machine.{Scope};
-ghost use Rattle.asl_states.specs.Table.{Shows, table_view};
+ghost use Rattle.asl_machine_table.specs.Table.{Shows, table_view};
 ghost use Rattle.asl_records.specs.Numbered.{AreWithin, numbered_view};
 ghost use Rattle.asl_records.specs.View.{declared_view};
 ghost use Rattle.asl_check.specs.Told.{listed};

@@ -2,7 +2,7 @@
 ghost use Rattle.std.specs.Prelude.{◌≡◌, ℕ, IfOk, map, option_map};
 ghost use Rattle.asl_model.specs.Machine.{Scope};
 ghost use Rattle.asl_model.specs.Names.{Bytes};
-ghost use Rattle.asl_states.specs.Table.{Shows};
+ghost use Rattle.asl_machine_table.specs.Table.{Shows};
 ghost use Rattle.asl_records.specs.View.{declared_view};
 ghost use Rattle.asl_texts.specs.Verifying.{ReadsInto};
 ghost use Rattle.asl_lint.specs.Reading.{IsDeclaration};

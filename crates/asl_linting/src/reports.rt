@@ -60,14 +60,16 @@ impl Report {
     pub(crate) fn add_checked(&mut self, path: &str, linted: Linted) -> Result<(), OutOfMemory> {
         self.checked = self.checked.saturating_add(1);
         self.is_partial |= !linted.is_read;
-        let hint = hint_for(path, &linted);
+        if has_fields_of_declared(&linted.diagnostics) {
+            self.note(
+                path,
+                "it has the fields of declared shapes; they are given by --declared",
+            )?;
+        }
         for diagnostic in linted.diagnostics {
             self.diagnostics.push(diagnostic)?;
         }
-        match hint {
-            Some(hint) => self.note(path, hint),
-            None => Ok(()),
-        }
+        Ok(())
     }
 
     /// Takes a definition without declared shapes.
@@ -108,6 +110,7 @@ impl Report {
         let diagnostics = in_order(alloc, self.diagnostics)?;
         let counts = Counts::of(&diagnostics);
         let mut notes = self.notes;
+        push_yaml(alloc, &mut notes, &diagnostics)?;
         push_undeclared(alloc, &mut notes, &self.undeclared)?;
         Ok(Told {
             output: written(alloc, &diagnostics, format)?,
@@ -151,17 +154,6 @@ impl Counts {
     }
 }
 
-/// What the text at that path seems to be, where it is hardly a definition in JSON.
-fn hint_for(path: &str, linted: &Linted) -> Option<&'static str> {
-    if has_fields_of_declared(&linted.diagnostics) {
-        Some("it has the fields of declared shapes; they are given by --declared")
-    } else if !linted.is_read && (path.ends_with(".yaml") || path.ends_with(".yml")) {
-        Some("YAML isn't read: make JSON of it first")
-    } else {
-        None
-    }
-}
-
 /// Whether what was taken for a definition lacks a definition's fields, and has those of declared shapes.
 fn has_fields_of_declared(diagnostics: &[Diagnostic]) -> bool {
     is_told(diagnostics, "MissingField", "StartAt") && is_told(diagnostics, "UnknownField", "input")
@@ -178,6 +170,27 @@ fn is_told(diagnostics: &[Diagnostic], rule: &str, field: &str) -> bool {
 fn counted(alloc: Global, count: usize, what: &str) -> Result<String, OutOfMemory> {
     let ending = if count == 1 { "" } else { "s" };
     Ok(format!(in alloc; "{count} {what}{ending}")?)
+}
+
+/// Puts a line behind the text for each file that is no JSON and has a name of YAML.
+fn push_yaml(
+    alloc: Global,
+    text: &mut String,
+    diagnostics: &[Diagnostic],
+) -> Result<(), OutOfMemory> {
+    for diagnostic in diagnostics {
+        if is_yaml(diagnostic) {
+            let path = in_line(alloc, &diagnostic.file)?;
+            write!(text, "{path}: YAML isn't read: make JSON of it first\n")?;
+        }
+    }
+    Ok(())
+}
+
+/// Whether the diagnostic is of a file that is no JSON and has a name of YAML.
+fn is_yaml(diagnostic: &Diagnostic) -> bool {
+    diagnostic.rule.id == "NotJson"
+        && (diagnostic.file.ends_with(".yaml") || diagnostic.file.ends_with(".yml"))
 }
 
 /// Puts the line on definitions without declared shapes behind the text, where there are any.

@@ -6,12 +6,12 @@ use Rattle.asl_model.specs.Numbering.{Standing, standing_in, outlined, table_amo
 use Rattle.asl_model.specs.StandsFor.{Complaint, StandsFor, scope_of, all_names, complaints, no_object_complaints, scope_complaints, duplicate_complaints, number_complaints, place_of_state}
 use Rattle.asl_model.proofs.Numbering.{names_of_standing, outlined_names}
 use Rattle.asl_model.proofs.WellNamed.{well_named}
-use Rattle.asl_states.specs.declared.machine.Machine.{Machine}
+use Rattle.asl_machine_table.specs.declared.machine.Machine.{Machine}
 use Rattle.asl_machine.specs.declared.refusals.DefRefusal.{DefRefusal}
 use Rattle.asl_machine.specs.Definition.{IsAmong}
 use Rattle.asl_machine.specs.Numbered.{names_of_all}
 use Rattle.asl_machine.specs.Refusal.{IsRefused, without_memory, for_broken_rule}
-use Rattle.asl_states.specs.Table.{table_view, Shows, StatesAreNumbered}
+use Rattle.asl_machine_table.specs.Table.{table_view, Shows, StatesAreNumbered}
 use Rattle.asl_machine.specs.View.{refusal_view}
 use Rattle.asl_machine.proofs.Checks.{among_first, among_second}
 

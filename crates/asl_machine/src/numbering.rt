@@ -8,12 +8,13 @@ ghost use Rattle.asl_machine.specs.Definition.{IsAmong};
 ghost use Rattle.asl_machine.specs.Numbered.{home_view, number_in, placed_in, names_of_all, Holds, names_of_rows};
 ghost use Rattle.asl_states.specs.Machine.{scope_view};
 ghost use Rattle.asl_machine.specs.Built.{built_view};
-ghost use Rattle.asl_states.specs.Table.{StatesAreNumbered, table_view};
+ghost use Rattle.asl_machine_table.specs.Table.{StatesAreNumbered, table_view};
 ghost use Rattle.asl_machine.specs.View.{refusal_view};
 
 use crate::building::{BuiltState, Home};
 use crate::refusals::{DefFault, DefRefusal};
-use asl_states::{Machine, Scope, State};
+use asl_machine_table::Machine;
+use asl_states::{Scope, State};
 use asl_tree::OutOfMemory;
 use indexmap::IndexSet;
 use std::alloc::Global;

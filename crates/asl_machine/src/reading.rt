@@ -5,13 +5,13 @@ ghost use Rattle.serde_json.specs.View.{view};
 ghost use Rattle.asl_model.specs.Numbering.{table_of};
 ghost use Rattle.asl_model.specs.StandsFor.{StandsFor, scope_of};
 ghost use Rattle.asl_machine.specs.Refusal.{IsRefused};
-ghost use Rattle.asl_states.specs.Table.{table_view, Shows};
+ghost use Rattle.asl_machine_table.specs.Table.{table_view, Shows};
 ghost use Rattle.asl_machine.specs.View.{refusal_view};
 
 use crate::numbering::number;
 use crate::refusals::DefRefusal;
 use crate::scope_reading::read_states;
-use asl_states::Machine;
+use asl_machine_table::Machine;
 use serde_json::Value;
 use std::alloc::Global;
 

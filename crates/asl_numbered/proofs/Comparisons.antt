@@ -26,9 +26,8 @@ use Rattle.asl_numbered.specs.declared.pair.Pair.{Pair}
 use Rattle.asl_numbered.specs.declared.comparing.Task.{Task}
 use Rattle.asl_numbered.specs.declared.comparing.Task.TheVariants.{Compare, Conclude}
 use Rattle.asl_numbered.specs.Comparison.{inside, IsWithin, IsRight, AreRight, all_inside, AreEachStanding, AreEachOutside, AreOutside, count_shapes, array_parts, object_parts, count_parts, widest, cost, work, width, RestsOn, AreComparisons, PartsRestOn, place_tasks, AreGoing, with_field_task, field_tasks, mention_fits_in, mentions_fit_in, objects_fit_in}
-use Rattle.asl_numbered.specs.Expansion.{shape_at, shapes_at, fields_at, expansions, numbers_in, AreBelow, Keeps}
+use Rattle.asl_numbered.specs.Expansion.{shape_at, shapes_at, fields_at, numbers_in, AreBelow, Keeps}
 use Rattle.asl_numbered.specs.TakenApart.{simple_of, arrays_over, objects_over, kinds_over, AreArraysAt, AreObjectsAt, AreArraysIfAny, AreObjectsIfAny}
-use Rattle.asl_numbered.proofs.Expansions.{as_many}
 use Rattle.asl_numbered.proofs.Remembered.{same, each_kept, each_put, each_found}
 use Rattle.asl_numbered.specs.Laws.{below-wider, keeps_longer, kept_shape}
 
@@ -488,8 +487,8 @@ next_task tasks i d t h is =
 
 -- ---- numbers of a table
 
-pub both_within : (ns : List Node) (a b m n : ℕ) → a < m → m ≡ length ns → b < n → n ≡ length ns → IsWithin (expansions ns) (record { first = a; second = b })
-both_within ns a b m n h e i f = record { first = omega (arith, h, e, as_many ns); second = omega (arith, i, f, as_many ns) }
+pub both_within : (table : List model.Shape) (a b m n : ℕ) → a < m → m ≡ length table → b < n → n ≡ length table → IsWithin table (record { first = a; second = b })
+both_within table a b m n h e i f = record { first = omega (arith, h, e); second = omega (arith, i, f) }
 
 -- a proper shape is inside itself
 pub inside_itself : (table : List model.Shape) (p : Pair) → p.first ≡ p.second → model.IsProperShape (shape_at table p.first) → ((a b : model.Shape) → model.IsOrdered a → model.Inside a b → IsTrue (sub a b)) → inside table p ≡ true

@@ -55,8 +55,8 @@ shape_over_stays table added (Several numbers) h = ap merged (list_stays table a
 
 -- ---- keeping
 
-pub keeps_unchanged : (a b : List Node) → b ≡ a → Keeps (expansions a) (expansions b)
-keeps_unchanged a b e = rw e (keeps_same (expansions a))
+pub keeps_unchanged : (a b : List model.Shape) → b ≡ a → Keeps a b
+keeps_unchanged a b e = rw e (keeps_same a)
 
 -- ---- nodes behind others
 

@@ -1,7 +1,6 @@
 -- What is known of a shape, by its first level and what is known of its parts.
 use Rattle.std.proofs.Common.{◌≡◌, ◌≤◌, ℕ, zero, suc, List, [], ◌∷◌, length, map, Bool, true, false, ◌&&◌, eqb, Some, None, slice_get, Vec, Global, refl, sym, ap, ◌∙◌, subst, arith}
 use Rattle.std.proofs.lemmas.List.{length-map}
-use Rattle.std.specs.Map.{keys_of}
 use Rattle.std.specs.List.{list_any, list_all}
 use Rattle.asl_model.specs.Shape as model
 use Rattle.asl_model.specs.ShapeOrder.{takes_all}
@@ -10,9 +9,9 @@ use Rattle.asl_numbered.specs.declared.node.Node.TheVariants as nodes
 use Rattle.asl_numbered.specs.declared.table.Facts.{Facts}
 use Rattle.asl_numbered.specs.Expansion.{shape_at, shapes_at, shape_over}
 use Rattle.asl_numbered.specs.Kinds.{IsProperNode, AreSeveral, full, tidy, of_every_kind}
-use Rattle.asl_numbered.specs.Table.{IsTable}
+use Rattle.asl_numbered.specs.Table.{IsTable, shapes_in}
 use Rattle.asl_numbered.proofs.Ascending.{inhabited_merged, full_merged, tidy_merged, several_merged, all_merged}
-use Rattle.asl_numbered.proofs.Tables.{shapes_in, entry_level, keys_counted, shape_past}
+use Rattle.asl_numbered.proofs.Tables.{entry_level, shapes_length, shape_past}
 
 several : (table : List model.Shape) (node : Node) (numbers : Vec ℕ Global) → node ≡ nodes.Several numbers → IsProperNode table node → AreSeveral (map (shape_at table) numbers.items)
 several table node numbers e is = let own = subst (IsProperNode table) e is in own.proper
@@ -60,7 +59,7 @@ past (x ∷ xs) (suc n) e = omega (arith, past xs n e)
 
 -- past the end there is Never
 pub entry_past : (es : List (Node × Facts)) (n : ℕ) → None ≡ slice_get es n → shape_at (shapes_in es) n ≡ model.Never
-entry_past es n e = shape_past (keys_of es) n (omega (arith, past es n e, keys_counted es))
+entry_past es n e = shape_past (shapes_in es) n (omega (arith, past es n e, shapes_length es))
 
 -- with a first place there are arrays that are not among these
 pub not_empty : (table : List model.Shape) (node : Node) (first : Vec ℕ Global) (rest : ℕ) (empty : Bool) → node ≡ nodes.List first rest → empty ≡ false → empty ≡ eqb first.len 0 → empty ≡ full (shape_over table node)

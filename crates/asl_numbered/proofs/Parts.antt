@@ -32,12 +32,12 @@ use Rattle.asl_numbered.specs.declared.node.Node.{Node}
 use Rattle.asl_numbered.specs.declared.node.Node.TheVariants as nodes
 use Rattle.asl_numbered.specs.declared.node.NodeField.{NodeField}
 use Rattle.asl_numbered.specs.declared.pair.Pair.{Pair}
-use Rattle.asl_numbered.specs.Expansion.{shape_at, shapes_at, fields_at, shape_over, expansions, numbers_in, parts, AreBelow, RefersBelow, IsNumberOf, Keeps, Shows}
+use Rattle.asl_numbered.specs.Expansion.{shape_at, shapes_at, fields_at, shape_over, numbers_in, parts, AreBelow, RefersBelow, IsNumberOf, Keeps, Shows}
 use Rattle.asl_numbered.specs.Kinds.{AreSeveral, HasProperParts}
 use Rattle.asl_numbered.specs.TakenApart.{arrays_over, objects_over, kinds_over, arrays_of, objects_of, arrays_at, objects_at, kinds_at, AreArraysIfAny, AreObjectsIfAny, AreKindsAt}
 use Rattle.asl_numbered.specs.Joins.{joint, place_joins, with_field_join, field_joins, array_joins, object_joins, kinds_joins, kept, found_in, AreMadeOf, AreArraysWithin, AreObjectsWithin, AreKindsWithin, AreKindsOf, part_shape, IsPartWithin, HasPart, IsPutPart, IsOfArrays, IsOfObjects, simple_of, AreJoined, IsArrayJoin, IsObjectJoin, AreJoinedFields, AreWithOthers, IsListOf}
 use Rattle.asl_numbered.proofs.Comparisons.{mentions_number, mention_of_number}
-use Rattle.asl_numbered.proofs.Expansions.{as_many, shape_over_stays}
+use Rattle.asl_numbered.proofs.Expansions.{shape_over_stays}
 use Rattle.asl_numbered.proofs.Joins.{common_places}
 use Rattle.asl_numbered.specs.Laws.{below-behind, below-drop, below-take, below-wider, keeps_longer, kept_shape}
 
@@ -460,7 +460,7 @@ assembled old middle now new kinds (OfKinds simple arrays objects) first second 
     record { within = is.within; same = is.same ∙ whole }
 
 -- a level that is to be put refers to earlier numbers
-pub level_refers : (ns : List Node) (part : Option Part) (own : Part) (node : Node) → part ≡ Some own → own ≡ Level node → IfSome part (IsPartWithin (expansions ns)) → RefersBelow (length ns) node
-level_refers ns part own node is own_is h =
-    let level : IsPartWithin (expansions ns) (Level node) = subst (IsPartWithin (expansions ns)) own_is (subst (λ o. IfSome o (IsPartWithin (expansions ns))) is h) in
-    record { each = subst (λ n. AreBelow n (parts node)) (as_many ns) level.within.0.each }
+pub level_refers : (table : List Shape) (part : Option Part) (own : Part) (node : Node) → part ≡ Some own → own ≡ Level node → IfSome part (IsPartWithin table) → RefersBelow (length table) node
+level_refers table part own node is own_is h =
+    let level : IsPartWithin table (Level node) = subst (IsPartWithin table) own_is (subst (λ o. IfSome o (IsPartWithin table)) is h) in
+    level.within.0

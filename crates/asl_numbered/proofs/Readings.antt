@@ -29,13 +29,12 @@ use Rattle.asl_numbered.specs.declared.node.Node.TheVariants.{List as Elements, 
 use Rattle.asl_numbered.specs.declared.node.NodeField.{NodeField}
 use Rattle.asl_numbered.specs.declared.NumberedRefusal.{NumberedRefusal}
 use Rattle.asl_numbered.specs.declared.NumberedRefusal.TheVariants as refusal
-use Rattle.asl_numbered.specs.Expansion.{shape_at, shapes_at, fields_at, shape_over, expansions, AreBelow, RefersBelow, IsNumberOf, AreNumbersOf, AreFieldsOf, Keeps}
+use Rattle.asl_numbered.specs.Expansion.{shape_at, shapes_at, fields_at, shape_over, AreBelow, RefersBelow, IsNumberOf, AreNumbersOf, AreFieldsOf, Keeps}
 use Rattle.asl_numbered.specs.Reading.{AreGiven, IsRead, IsReadOver, AreArraysRead, AreObjectsRead, IsReadRest, AreRead, AreFieldsRead, TellsOneOf}
 use Rattle.asl_numbered.specs.Refusal.{numbered}
 use Rattle.asl_model.specs.References.{reference_among, meant_by}
 use Rattle.asl_numbered.specs.References.{reference_in, referred, numbers_given, shapes_given, SpellsWith, by_reference, by_level, SpellsOver, with_none_inside, with_kinds, SpellsArrays, without_arrays, with_elements, SpellsObjects, without_objects, with_properties, SpellEach, no_element, and_element, SpellsRest, no_rest, some_rest, SpellFields, no_field, and_field, inside, each_of, values_of, is_itself, stands_inside, TellsOf}
 use Rattle.asl_numbered.proofs.Appending.{names, appended}
-use Rattle.asl_numbered.proofs.Expansions.{as_many}
 use Rattle.asl_numbered.specs.TakenApart.{arrays_of, objects_of, kinds_at}
 use Rattle.asl_numbered.specs.declared.kinds.KindNumbers.{KindNumbers}
 use Rattle.asl_numbered.proofs.Growing.{numbers_kept, fields_kept, numbers_push}
@@ -43,21 +42,19 @@ use Rattle.asl_numbered.specs.Laws.{below-append, below-wider, keeps_longer, kep
 
 -- ---- numbers that are given
 
--- numbers below the count of the shapes are below that of the nodes
-pub given_nodes : (nodes : List Node) (given : Option (Bor (List ℕ))) → IfSome given (λ ns. AreBelow (length (expansions nodes)) ns.now) → AreGiven (length nodes) (numbers_given given)
-given_nodes nodes None h = record { below = tt }
-given_nodes nodes (Some ns) h = record { below = subst (λ bound. AreBelow bound ns.now) (as_many nodes) h }
+pub given_below : (bound : ℕ) (given : Option (Bor (List ℕ))) → IfSome given (λ ns. AreBelow bound ns.now) → AreGiven bound (numbers_given given)
+given_below bound None h = record { below = tt }
+given_below bound (Some ns) h = record { below = h }
 
-pub given_kept : (old new : List Node) (given : Option (List ℕ)) → Keeps (expansions old) (expansions new) → AreGiven (length old) given → AreGiven (length new) given
+pub given_kept : (old new : List model.Shape) (given : Option (List ℕ)) → Keeps old new → AreGiven (length old) given → AreGiven (length new) given
 given_kept old new None keeps h = record { below = tt }
 given_kept old new (Some ns) keeps h =
-    let longer : length old ≤ length new = omega (arith, as_many old, as_many new, keeps_longer (expansions old) (expansions new) keeps) in
-    record { below = below-wider (length old) (length new) ns longer h.below }
+    record { below = below-wider (length old) (length new) ns (keeps_longer old new keeps) h.below }
 
-pub given_same : (old new : List Node) (given : Option (Bor (List ℕ))) → Keeps (expansions old) (expansions new) → AreGiven (length old) (numbers_given given) → shapes_given (expansions new) given ≡ shapes_given (expansions old) given
+pub given_same : (old new : List model.Shape) (given : Option (Bor (List ℕ))) → Keeps old new → AreGiven (length old) (numbers_given given) → shapes_given new given ≡ shapes_given old given
 given_same old new None keeps h = refl
 given_same old new (Some ns) keeps h =
-    ap Some (kept_shapes (expansions old) (expansions new) ns.now keeps (subst (λ n. AreBelow n ns.now) (sym (as_many old)) h.below))
+    ap Some (kept_shapes old new ns.now keeps h.below)
 
 -- ---- references
 
@@ -100,11 +97,11 @@ referred_below : (bound : ℕ) (given : Option (List ℕ)) (t : Tree) (n : ℕ) 
 referred_below bound None t n h is = absurd (cc)
 referred_below bound (Some ns) t n h is = named_below bound ns (reference_in t) n h.below is
 
-pub reference_read : (several : Bool) (table : List Node) (given : Option (Bor (List ℕ))) (t : Tree) (n : ℕ) → AreGiven (length table) (numbers_given given) → referred (numbers_given given) t ≡ Some (Some n) → IsRead several (shapes_given (expansions table) given) t (expansions table) n
+pub reference_read : (several : Bool) (table : List model.Shape) (given : Option (Bor (List ℕ))) (t : Tree) (n : ℕ) → AreGiven (length table) (numbers_given given) → referred (numbers_given given) t ≡ Some (Some n) → IsRead several (shapes_given table given) t table n
 reference_read several table given t n h is =
     record {
-      within = subst (λ bound. n < bound) (sym (as_many table)) (referred_below (length table) (numbers_given given) t n h is);
-      spelled = by_reference (referred_shape (expansions table) given t ∙ ap (option_map (option_map (shape_at (expansions table)))) is);
+      within = referred_below (length table) (numbers_given given) t n h is;
+      spelled = by_reference (referred_shape table given t ∙ ap (option_map (option_map (shape_at table))) is);
     }
 
 pub reference_told : (several : Bool) (table : List model.Shape) (given : Option (Bor (List ℕ))) (t : Tree) → referred (numbers_given given) t ≡ Some None → TellsOf several (shapes_given table given) t refusal.BadNumber
@@ -251,10 +248,10 @@ number_read several given old new before after v ns ms n keeps are read more als
 pub numbers_end : (several : Bool) (given : Option (List model.Shape)) (table : List model.Shape) (i : ℕ) (vs : List CodeTree) (ns : List ℕ) → length vs ≤ i → AreRead several given (trees.elements_view (take i vs)) table ns → AreRead several given (trees.elements_view vs) table ns
 numbers_end several given table i vs ns past are = subst (λ us. AreRead several given (trees.elements_view us) table ns) (take_all i vs past) are
 
-pub list_refers : (several : Bool) (given : Option (List model.Shape)) (first : Trees) (rest : Option Tree) (middle now : List Node) (ns : Vec ℕ Global) (n : ℕ) → Keeps (expansions middle) (expansions now) → AreRead several given first (expansions middle) ns.items → IsReadRest several given rest (expansions now) n → RefersBelow (length now) (Elements ns n)
+pub list_refers : (several : Bool) (given : Option (List model.Shape)) (first : Trees) (rest : Option Tree) (middle now : List model.Shape) (ns : Vec ℕ Global) (n : ℕ) → Keeps middle now → AreRead several given first middle ns.items → IsReadRest several given rest now n → RefersBelow (length now) (Elements ns n)
 list_refers several given first rest middle now ns n keeps are read =
-    let kept = numbers_grown several given first (expansions middle) (expansions now) ns.items keeps are in
-    subst (λ bound. RefersBelow bound (Elements ns n)) (as_many now) (record { each = (read.within, kept.within) })
+    let kept = numbers_grown several given first middle now ns.items keeps are in
+    record { each = (read.within, kept.within) }
 
 pub list_read : (several : Bool) (given : Option (List model.Shape)) (list : ListLevel) (middle now new : List model.Shape) (ns : Vec ℕ Global) (further n : ℕ) → Keeps middle now → AreRead several given list.first middle ns.items → IsReadRest several given list.rest now further → IsNumberOf new (shape_over now (Elements ns further)) n → AreArraysRead several given (Some list) new (Some n)
 list_read several given list middle now new ns further n keeps are read is =
@@ -320,8 +317,8 @@ field_read several given old new done left e es fs k f sorted keeps same are nam
       }),
     )
 
-pub object_refers : (shapes : model.FieldShapes) (now : List Node) (fields : BTreeMap (String Global) NodeField) (extra : Bool) → AreFieldsOf (expansions now) shapes fields.entries → RefersBelow (length now) (Object fields extra)
-object_refers shapes now fields extra are = subst (λ bound. RefersBelow bound (Object fields extra)) (as_many now) (record { each = are.within })
+pub object_refers : (shapes : model.FieldShapes) (now : List model.Shape) (fields : BTreeMap (String Global) NodeField) (extra : Bool) → AreFieldsOf now shapes fields.entries → RefersBelow (length now) (Object fields extra)
+object_refers shapes now fields extra are = record { each = are.within }
 
 pub object_read : (several : Bool) (given : Option (List model.Shape)) (object : ObjectLevel) (middle now new : List model.Shape) (fields : List (String Global × NodeField)) (marked : BTreeMap (String Global) NodeField) (n : ℕ) → AreFieldsRead several given object.properties middle fields → AreFieldsOf now (with_all_needed object.extra object.names (fields_at middle fields)) marked.entries → IsNumberOf new (shape_over now (Object marked object.extra)) n → AreObjectsRead several given (Some object) new (Some n)
 object_read several given object middle now new fields marked n are marks is =

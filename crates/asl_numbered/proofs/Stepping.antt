@@ -25,10 +25,9 @@ use Rattle.asl_numbered.specs.declared.finding.Step.{Step}
 use Rattle.asl_numbered.specs.declared.node.Node.{Node}
 use Rattle.asl_numbered.specs.declared.node.NodeField.{NodeField}
 use Rattle.asl_numbered.specs.Examples.{examples_at}
-use Rattle.asl_numbered.specs.Expansion.{expansions, fields_at, AreBelow}
+use Rattle.asl_numbered.specs.Expansion.{fields_at, AreBelow}
 use Rattle.asl_numbered.specs.Outside.{IsSought, sought_tree, steps_left, step_over, steps_over, numbers_of, AreStepsWithin, IsFound}
 use Rattle.asl_numbered.proofs.Comparisons.{mentions_number}
-use Rattle.asl_numbered.proofs.Expansions.{as_many}
 
 -- ---- the steps that are found
 
@@ -70,8 +69,8 @@ next_sought table next left tree found is within own = go found.next own.next
 -- ---- the tree that is built
 
 -- the bound of all numbers of a table
-pub below_len : (ns : List Node) (n : ℕ) (ms : List ℕ) → n ≡ length ns → AreBelow (length (expansions ns)) ms → AreBelow n ms
-below_len ns n ms e below = rw (e ∙ sym (as_many ns)) below
+pub below_len : (table : List Shape) (n : ℕ) (ms : List ℕ) → n ≡ length table → AreBelow (length table) ms → AreBelow n ms
+below_len table n ms e below = rw e below
 
 -- the last step is taken
 pub step_taken : (table : List Shape) (whole : model.Tree) (steps front : List Step) (step : Step) (t new : Tree) → whole ≡ steps_over table steps (view t) → steps ≡ front ++ step ∷ [] → view new ≡ step_over table step (view t) → whole ≡ steps_over table front (view new)

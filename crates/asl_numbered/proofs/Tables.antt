@@ -15,14 +15,10 @@ use Rattle.asl_numbered.specs.declared.node.Node.TheVariants as nodes
 use Rattle.asl_numbered.specs.declared.table.Facts.{Facts}
 use Rattle.asl_numbered.specs.Expansion.{shape_at, shape_over, parts, AreBelow, RefersBelow, AreDistinct, IsNumberOf, Keeps, expansions}
 use Rattle.asl_numbered.specs.Kinds.{AreSeveral, HasProperParts, IsProperNode}
-use Rattle.asl_numbered.specs.Table.{AreFactsOf, IsOrdered, IsTable}
+use Rattle.asl_numbered.specs.Table.{AreFactsOf, IsOrdered, IsTable, shapes_in}
 use Rattle.asl_numbered.proofs.Expansions.{shape_at_stays, list_stays, pushed, as_many, level}
 use Rattle.asl_numbered.proofs.Sameness.{equal, same-shape, alike-equal}
 use Rattle.asl_numbered.specs.Laws.{below-wider}
-
--- the shapes of the nodes
-abbrev pub shapes_in : List (Node × Facts) → List model.Shape
-shapes_in es = expansions (keys_of es)
 
 -- as many as there are nodes
 pub shapes_length : (es : List (Node × Facts)) → length (shapes_in es) ≡ length es
@@ -42,10 +38,6 @@ entry-of (first ∷ es) (suc n) k at = entry-of es n k at
 pub empty_table : (es : List (Node × Facts)) → es ≡ [] → IsTable es
 empty_table es none = rw none (record { earlier = λ n e at. absurd (cc); distinct = record { apart = λ m n h i e. absurd (omega (arith, h)) }; facts = λ n e at. absurd (cc); ordered = λ n e at. absurd (cc); proper = λ n e at. absurd (cc) })
 
--- as many nodes as entries
-pub keys_counted : (es : List (Node × Facts)) → length (keys_of es) ≡ length es
-keys_counted es = length-map es (λ e. e.0)
-
 -- a node of the table has the first level of the shape of its number
 pub entry_level : (es : List (Node × Facts)) (n : ℕ) (e : Node × Facts) → IsTable es → slice_get es n ≡ Some e → shape_at (shapes_in es) n ≡ shape_over (shapes_in es) e.0
 entry_level es n e table at = level (keys_of es) n e.0 (key_of es n e at) (table.earlier n e at)
@@ -57,30 +49,30 @@ entry_below es n e table at =
     below-wider n (length (shapes_in es)) (parts e.0) within (table.earlier n e at).each
 
 -- past the end there is Never
-pub shape_past : (table : List Node) (n : ℕ) → length table ≤ n → shape_at (expansions table) n ≡ model.Never
-shape_past table n past = get_or_past (expansions table) n model.Never (omega (arith, past, as_many table))
+pub shape_past : (table : List model.Shape) (n : ℕ) → length table ≤ n → shape_at table n ≡ model.Never
+shape_past table n past = get_or_past table n model.Never past
 
 -- what a look-up by number tells of a shape, where it would tell false of Never
-told : (test : model.Shape → Bool) (table : List Node) (n : ℕ) (answer : Option Bool) → test model.Never ≡ false → (IsSome answer ↔ n < length table) → IfSome answer (λ b. b ≡ test (shape_at (expansions table) n)) → unwrap_or answer false ≡ test (shape_at (expansions table) n)
+told : (test : model.Shape → Bool) (table : List model.Shape) (n : ℕ) (answer : Option Bool) → test model.Never ≡ false → (IsSome answer ↔ n < length table) → IfSome answer (λ b. b ≡ test (shape_at table n)) → unwrap_or answer false ≡ test (shape_at table n)
 told test table n (Some b) none there is = is
 told test table n None none there is = go (cases_lt n (length table))
   where
-    go : (n < length table) ⊎ (length table ≤ n) → false ≡ test (shape_at (expansions table) n)
+    go : (n < length table) ⊎ (length table ≤ n) → false ≡ test (shape_at table n)
     go (inl within) = absurd (let some : false ≡ true = there.1 within in cc)
     go (inr past) = sym (ap test (shape_past table n past) ∙ none)
 
-pub told_inhabited : (table : List Node) (n : ℕ) (answer : Option Bool) → (IsSome answer ↔ n < length table) → IfSome answer (λ b. b ≡ model.inhabited (shape_at (expansions table) n)) → unwrap_or answer false ≡ model.inhabited (shape_at (expansions table) n)
+pub told_inhabited : (table : List model.Shape) (n : ℕ) (answer : Option Bool) → (IsSome answer ↔ n < length table) → IfSome answer (λ b. b ≡ model.inhabited (shape_at table n)) → unwrap_or answer false ≡ model.inhabited (shape_at table n)
 told_inhabited table n answer there is = told model.inhabited table n answer refl there is
 
-pub told_several : (table : List Node) (n : ℕ) (answer : Option Bool) → (IsSome answer ↔ n < length table) → IfSome answer (λ b. b ≡ model.has_several (shape_at (expansions table) n)) → unwrap_or answer false ≡ model.has_several (shape_at (expansions table) n)
+pub told_several : (table : List model.Shape) (n : ℕ) (answer : Option Bool) → (IsSome answer ↔ n < length table) → IfSome answer (λ b. b ≡ model.has_several (shape_at table n)) → unwrap_or answer false ≡ model.has_several (shape_at table n)
 told_several table n answer there is = told model.has_several table n answer refl there is
 
 -- a number that isn't there has Never
-pub none_past : (table : List Node) (n : ℕ) (told : Option (Bor Node)) → told ≡ None → (IsSome told ↔ n < length table) → model.Never ≡ shape_at (expansions table) n
+pub none_past : (table : List model.Shape) (n : ℕ) (told : Option (Bor Node)) → told ≡ None → (IsSome told ↔ n < length table) → model.Never ≡ shape_at table n
 none_past table n (Some node) e there = absurd (cc)
 none_past table n None e there = go (cases_lt n (length table))
   where
-    go : (n < length table) ⊎ (length table ≤ n) → model.Never ≡ shape_at (expansions table) n
+    go : (n < length table) ⊎ (length table ≤ n) → model.Never ≡ shape_at table n
     go (inl within) = absurd (let some : false ≡ true = there.1 within in cc)
     go (inr past) = sym (shape_past table n past)
 
@@ -184,7 +176,7 @@ proper-kept table added (nodes.Object fields extra) h p = tt
 proper-kept table added (nodes.Several numbers) h p =
     subst AreSeveral (sym (list_stays table added numbers.items h)) p
 
-module _ (es new : List (Node × Facts)) (node : Node) (flag : Facts) (table : IsTable es) (missing : false ≡ is_some (lookup (equal node) es)) (refers : RefersBelow (length (keys_of es)) node) (kinds : IsProperNode (shapes_in es) node) (inserted : new ≡ insert_entry equal es node flag) where
+module _ (es new : List (Node × Facts)) (node : Node) (flag : Facts) (table : IsTable es) (missing : false ≡ is_some (lookup (equal node) es)) (refers : RefersBelow (length (shapes_in es)) node) (kinds : IsProperNode (shapes_in es) node) (inserted : new ≡ insert_entry equal es node flag) where
   none : lookup (equal node) es ≡ None
   none = none-from (lookup (equal node) es) missing
 
@@ -199,7 +191,7 @@ module _ (es new : List (Node × Facts)) (node : Node) (flag : Facts) (table : I
   longer = ap shapes_in is ∙ ap expansions (map-append (λ e. e.0) es ((node, flag) ∷ [])) ∙ pushed (keys_of es) node
 
   below : AreBelow (length (shapes_in es)) (parts node)
-  below = subst (λ n. AreBelow n (parts node)) (sym (as_many (keys_of es))) refers.each
+  below = refers.each
 
   distinct : AreDistinct (shapes_in new)
   distinct = subst AreDistinct (sym longer) (pushed-distinct (shapes_in es) own table.distinct (λ m h e. new-shape es node m table none below kinds h e))
@@ -230,7 +222,7 @@ module _ (es new : List (Node × Facts)) (node : Node) (flag : Facts) (table : I
 
       earlier : (n : ℕ) (e : Node × Facts) → (slice_get es n ≡ Some e) ⊎ ((n ≡ length es) × ((node, flag) ≡ e)) → RefersBelow n e.0
       earlier n e (inl old) = table.earlier n e old
-      earlier n e (inr at_end) = subst (λ x. RefersBelow n x.0) at_end.1 (subst (λ k. RefersBelow k node) (length-map es (λ x. x.0) ∙ sym at_end.0) refers)
+      earlier n e (inr at_end) = subst (λ x. RefersBelow n x.0) at_end.1 (subst (λ k. RefersBelow k node) (shapes_length es ∙ sym at_end.0) refers)
 
       facts : (n : ℕ) (e : Node × Facts) → (slice_get es n ≡ Some e) ⊎ ((n ≡ length es) × ((node, flag) ≡ e)) → AreFactsOf (shape_at (shapes_in new) n) e.1
       facts n e (inl old) = subst (λ s. AreFactsOf s e.1) (sym (stays n (slice_get_within es n e old))) (table.facts n e old)

@@ -39,11 +39,15 @@ pub record AreFactsOf (s : model.Shape) (facts : Facts) : Type 0 where
   pub several : facts.several ≡ model.has_several s
   pub tidy : facts.tidy ≡ tidy s
 
+-- the shapes that the nodes of the entries stand for
+abbrev pub shapes_in : List (Node × Facts) → List model.Shape
+shapes_in entries = expansions (keys_of entries)
+
 -- Each node has numbers of earlier ones alone, no shape stands twice, the facts are those of the shape, the names of
 -- fields stand in order, and nodes of several parts are proper.
 pub record IsTable (entries : List (Node × Facts)) : Type 0 where
   pub earlier : (n : ℕ) (e : Node × Facts) → slice_get entries n ≡ Some e → RefersBelow n e.0
-  pub distinct : AreDistinct (expansions (keys_of entries))
-  pub facts : (n : ℕ) (e : Node × Facts) → slice_get entries n ≡ Some e → AreFactsOf (shape_at (expansions (keys_of entries)) n) e.1
+  pub distinct : AreDistinct (shapes_in entries)
+  pub facts : (n : ℕ) (e : Node × Facts) → slice_get entries n ≡ Some e → AreFactsOf (shape_at (shapes_in entries) n) e.1
   pub ordered : (n : ℕ) (e : Node × Facts) → slice_get entries n ≡ Some e → IsOrdered e.0
-  pub proper : (n : ℕ) (e : Node × Facts) → slice_get entries n ≡ Some e → IsProperNode (expansions (keys_of entries)) e.0
+  pub proper : (n : ℕ) (e : Node × Facts) → slice_get entries n ≡ Some e → IsProperNode (shapes_in entries) e.0

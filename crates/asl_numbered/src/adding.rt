@@ -2,7 +2,7 @@
 ghost use Rattle.std.specs.Prelude.{IfOk};
 ghost use Rattle.asl_shape.specs.Kinds.{arrays_view, objects_view};
 ghost use Rattle.asl_shape.specs.View.{view, shapes_view, fields_view};
-ghost use Rattle.asl_numbered.specs.Expansion.{expansions, IsNumberOf, AreNumbersOf, AreFieldsOf, Keeps};
+ghost use Rattle.asl_numbered.specs.Expansion.{IsNumberOf, AreNumbersOf, AreFieldsOf, Keeps};
 ghost use Rattle.asl_numbered.specs.TakenApart.{HasArraysAt, HasObjectsAt};
 
 use crate::kinds::{KindNumbers, put_kinds};
@@ -17,8 +17,8 @@ use std::collections::BTreeMap;
 #[tactic(auto, using(crate::proofs::Expansions::simple_refers, crate::specs::Laws::keeps_trans))]
 #[cycle(add)]
 pub(crate) fn add(table: &mut Table, alloc: Global, shape: &Shape) -> Result<usize, OutOfMemory>
-    ensures number { IfOk result (IsNumberOf (expansions table.new) (view shape.now)) }
-    ensures keeps { Keeps (expansions table.old) (expansions table.new) }
+    ensures number { IfOk result (IsNumberOf table.new (view shape.now)) }
+    ensures keeps { Keeps table.old table.new }
 {
     let Some(kinds) = take_apart(shape) else {
         return table.put(Node::Any);
@@ -44,8 +44,8 @@ fn add_arrays(
     alloc: Global,
     arrays: Option<Arrays<'_>>,
 ) -> Result<Option<usize>, OutOfMemory>
-    ensures number { IfOk result (HasArraysAt (expansions table.new) (arrays_view arrays.entry)) }
-    ensures keeps { Keeps (expansions table.old) (expansions table.new) }
+    ensures number { IfOk result (HasArraysAt table.new (arrays_view arrays.entry)) }
+    ensures keeps { Keeps table.old table.new }
 {
     let Some(lists) = arrays else {
         return Ok(None);
@@ -67,9 +67,8 @@ fn add_objects(
     alloc: Global,
     objects: Option<Objects<'_>>,
 ) -> Result<Option<usize>, OutOfMemory>
-    ensures number { IfOk result
-        (HasObjectsAt (expansions table.new) (objects_view objects.entry)) }
-    ensures keeps { Keeps (expansions table.old) (expansions table.new) }
+    ensures number { IfOk result (HasObjectsAt table.new (objects_view objects.entry)) }
+    ensures keeps { Keeps table.old table.new }
 {
     let Some(mentions) = objects else {
         return Ok(None);
@@ -86,9 +85,8 @@ fn add_objects(
 #[tactic(auto, using(crate::proofs::Growing::no_numbers, crate::specs::Laws::keeps_same, crate::specs::Laws::keeps_trans))]
 #[cycle(add)]
 fn add_all(table: &mut Table, alloc: Global, shapes: &[Shape]) -> Result<Vec<usize>, OutOfMemory>
-    ensures numbers { IfOk result
-        (λ v. AreNumbersOf (expansions table.new) (shapes_view shapes.now) v.items) }
-    ensures keeps { Keeps (expansions table.old) (expansions table.new) }
+    ensures numbers { IfOk result (λ v. AreNumbersOf table.new (shapes_view shapes.now) v.items) }
+    ensures keeps { Keeps table.old table.new }
 {
     let mut numbers = Vec::with_capacity(alloc, shapes.len())?;
     for shape in shapes {
@@ -107,8 +105,8 @@ fn add_fields(
     fields: &BTreeMap<String, Field>,
 ) -> Result<BTreeMap<String, NodeField>, OutOfMemory>
     ensures numbers { IfOk result
-        (λ m. AreFieldsOf (expansions table.new) (fields_view fields.now.entries) m.entries) }
-    ensures keeps { Keeps (expansions table.old) (expansions table.new) }
+        (λ m. AreFieldsOf table.new (fields_view fields.now.entries) m.entries) }
+    ensures keeps { Keeps table.old table.new }
 {
     let mut numbered = BTreeMap::new(alloc);
     for (name, field) in fields.iter() {

@@ -6,7 +6,7 @@
 ghost use Rattle.asl_model.specs.Shape as shape;
 ghost use Rattle.asl_model.specs.ShapeOrder as model;
 ghost use Rattle.asl_numbered.specs.Comparison.{inside, array_parts, object_parts, place_tasks, field_tasks, mentions_fit_in, objects_fit_in, IsWithin, AreRight, AreOutside, RestsOn, PartsRestOn};
-ghost use Rattle.asl_numbered.specs.Expansion.{expansions, shape_at, fields_at};
+ghost use Rattle.asl_numbered.specs.Expansion.{shape_at, fields_at};
 ghost use Rattle.asl_numbered.specs.TakenApart.{simple_of, arrays_over, objects_over, kinds_over, AreArraysIfAny, AreObjectsIfAny, AreKindsAt};
 ghost use Rattle.std.specs.Prelude.{◌≡◌, ◌++◌, List, IfSome, IfOk};
 
@@ -41,10 +41,10 @@ pub(crate) fn compare(
     alloc: Global,
     pair: Pair,
 ) -> Result<bool, OutOfMemory>
-    requires right { AreRight (expansions table.now) compared.old.entries }
-    requires within { IsWithin (expansions table.now) pair }
-    ensures as_defined { IfOk result (λ b. b ≡ inside (expansions table.now) pair) }
-    ensures right { AreRight (expansions table.now) compared.new.entries }
+    requires right { AreRight table.now compared.old.entries }
+    requires within { IsWithin table.now pair }
+    ensures as_defined { IfOk result (λ b. b ≡ inside table.now pair) }
+    ensures right { AreRight table.now compared.new.entries }
 {
     let mut tasks = Vec::new(alloc);
     tasks.push(Task::Compare(pair))?;
@@ -104,10 +104,9 @@ fn look(
     pair: Pair,
     tasks: &mut Vec<Task>,
 ) -> Result<bool, OutOfMemory>
-    requires right { AreRight (expansions table.now) compared.now.entries }
-    requires within { IsWithin (expansions table.now) pair }
-    ensures rests { IfOk result
-        (λ b. RestsOn (expansions table.now) pair b tasks.old.items tasks.new.items) }
+    requires right { AreRight table.now compared.now.entries }
+    requires within { IsWithin table.now pair }
+    ensures rests { IfOk result (λ b. RestsOn table.now pair b tasks.old.items tasks.new.items) }
 {
     if pair.first == pair.second {
         sub_is_exactly_inside();
@@ -134,15 +133,12 @@ fn look_inside(
     outer: NodeKinds<'_>,
     tasks: &mut Vec<Task>,
 ) -> Result<bool, OutOfMemory>
-    requires within { IsWithin (expansions table.now) pair }
-    requires first { kinds_over (expansions table.now) inner
-        ≡ shape_at (expansions table.now) pair.first }
-    requires second { kinds_over (expansions table.now) outer
-        ≡ shape_at (expansions table.now) pair.second }
-    requires inner { AreKindsAt (expansions table.now) pair.first inner }
-    requires outer { AreKindsAt (expansions table.now) pair.second outer }
-    ensures rests { IfOk result
-        (λ b. RestsOn (expansions table.now) pair b tasks.old.items tasks.new.items) }
+    requires within { IsWithin table.now pair }
+    requires first { kinds_over table.now inner ≡ shape_at table.now pair.first }
+    requires second { kinds_over table.now outer ≡ shape_at table.now pair.second }
+    requires inner { AreKindsAt table.now pair.first inner }
+    requires outer { AreKindsAt table.now pair.second outer }
+    ensures rests { IfOk result (λ b. RestsOn table.now pair b tasks.old.items tasks.new.items) }
 {
     if !are_simple_inside(inner, outer) {
         return Ok(false);
@@ -172,13 +168,13 @@ fn look_at_arrays(
     outer: Option<NodeArrays<'_>>,
     tasks: &mut Vec<Task>,
 ) -> Result<bool, OutOfMemory>
-    requires within { IsWithin (expansions table.now) pair }
-    requires inner { AreArraysIfAny (expansions table.now) pair.first inner }
-    requires outer { AreArraysIfAny (expansions table.now) pair.second outer }
-    ensures rests { IfOk result (λ b. PartsRestOn (expansions table.now) pair.first
-        (array_parts (arrays_over (expansions table.now) inner.entry))
-        (model.arrays_sub (arrays_over (expansions table.now) inner.entry)
-        (arrays_over (expansions table.now) outer.entry))
+    requires within { IsWithin table.now pair }
+    requires inner { AreArraysIfAny table.now pair.first inner }
+    requires outer { AreArraysIfAny table.now pair.second outer }
+    ensures rests { IfOk result (λ b. PartsRestOn table.now pair.first
+        (array_parts (arrays_over table.now inner.entry))
+        (model.arrays_sub (arrays_over table.now inner.entry)
+        (arrays_over table.now outer.entry))
         b tasks.old.items tasks.new.items) }
 {
     let Some(inner) = inner else {
@@ -230,13 +226,13 @@ fn look_at_objects(
     outer: Option<NodeObjects<'_>>,
     tasks: &mut Vec<Task>,
 ) -> Result<bool, OutOfMemory>
-    requires within { IsWithin (expansions table.now) pair }
-    requires inner { AreObjectsIfAny (expansions table.now) pair.first inner }
-    requires outer { AreObjectsIfAny (expansions table.now) pair.second outer }
-    ensures rests { IfOk result (λ b. PartsRestOn (expansions table.now) pair.first
-        (object_parts (objects_over (expansions table.now) outer.entry))
-        (model.objects_sub (objects_over (expansions table.now) inner.entry)
-        (objects_over (expansions table.now) outer.entry))
+    requires within { IsWithin table.now pair }
+    requires inner { AreObjectsIfAny table.now pair.first inner }
+    requires outer { AreObjectsIfAny table.now pair.second outer }
+    ensures rests { IfOk result (λ b. PartsRestOn table.now pair.first
+        (object_parts (objects_over table.now outer.entry))
+        (model.objects_sub (objects_over table.now inner.entry)
+        (objects_over table.now outer.entry))
         b tasks.old.items tasks.new.items) }
 {
     let Some(inner) = inner else {
@@ -257,7 +253,7 @@ fn look_at_objects(
 
 // Whether the inner objects are among the outer ones, where the shapes of the fields are that both mention.
 fn objects_fit(table: &Table, inner: NodeObjects<'_>, outer: NodeObjects<'_>) -> bool
-    ensures { result ≡ objects_fit_in (expansions table.now) inner.entry outer.entry }
+    ensures { result ≡ objects_fit_in table.now inner.entry outer.entry }
 {
     (outer.extra || (!inner.extra && others_never_there(table, outer.fields, inner.fields)))
         && mentions_fit(table, inner.fields, inner.extra, outer.fields)
@@ -292,8 +288,7 @@ fn mentions_fit(
     more: bool,
     outer: &BTreeMap<String, NodeField>,
 ) -> bool
-    ensures { result ≡ mentions_fit_in
-        (expansions table.now) inner.now.entries more outer.now.entries }
+    ensures { result ≡ mentions_fit_in table.now inner.now.entries more outer.now.entries }
 {
     for (name, field) in outer.iter() {
         let fits = match inner.get(name) {
@@ -316,8 +311,8 @@ fn others_never_there(
 ) -> bool
     ensures { result
         ≡ model.others_never_there
-        (fields_at (expansions table.now) outer.now.entries)
-        (fields_at (expansions table.now) inner.now.entries) }
+        (fields_at table.now outer.now.entries)
+        (fields_at table.now inner.now.entries) }
 {
     for (name, field) in inner.iter() {
         if !outer.contains_key(name) && table.is_inhabited(field.shape) {

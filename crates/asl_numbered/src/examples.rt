@@ -7,7 +7,7 @@ ghost use Rattle.asl_model.specs.Examples as model;
 ghost use Rattle.asl_tree.specs.View.{view, entries_view};
 ghost use Rattle.asl_numbered.specs.Examples as omitting;
 ghost use Rattle.asl_numbered.specs.Examples.{examples_at, without};
-ghost use Rattle.asl_numbered.specs.Expansion.{expansions, shape_at, shapes_at, fields_at, numbers_in, AreBelow};
+ghost use Rattle.asl_numbered.specs.Expansion.{shape_at, shapes_at, fields_at, numbers_in, AreBelow};
 ghost use Rattle.asl_numbered.specs.Joins.{kept};
 ghost use Rattle.asl_numbered.specs.TakenApart.{kinds_over, AreKindsAt};
 
@@ -22,9 +22,8 @@ use std::collections::BTreeMap;
 
 /// The example of the shape of that number.
 pub(crate) fn example(table: &Table, alloc: Global, number: usize) -> Result<Tree, OutOfMemory>
-    requires within { number < length (expansions table.now) }
-    ensures as_defined { IfOk result
-        (λ t. view t ≡ model.example (shape_at (expansions table.now) number)) }
+    requires within { number < length table.now }
+    ensures as_defined { IfOk result (λ t. view t ≡ model.example (shape_at table.now number)) }
 {
     make_room(alloc, table.weight(number))?;
     build(table, alloc, number)
@@ -33,9 +32,8 @@ pub(crate) fn example(table: &Table, alloc: Global, number: usize) -> Result<Tre
 /// The same, where there is room for it.
 #[cycle(build)]
 pub(crate) fn build(table: &Table, alloc: Global, number: usize) -> Result<Tree, OutOfMemory>
-    requires within { number < length (expansions table.now) }
-    ensures as_defined { IfOk result
-        (λ t. view t ≡ model.example (shape_at (expansions table.now) number)) }
+    requires within { number < length table.now }
+    ensures as_defined { IfOk result (λ t. view t ≡ model.example (shape_at table.now number)) }
 {
     match kept_kinds(table, number) {
         None => Ok(Tree::Null),
@@ -51,12 +49,10 @@ fn build_kinds(
     number: usize,
     kinds: NodeKinds<'_>,
 ) -> Result<Tree, OutOfMemory>
-    requires within { number < length (expansions table.now) }
-    requires kept { kinds_over (expansions table.now) kinds
-        ≡ kept (shape_at (expansions table.now) number) }
-    requires below { AreKindsAt (expansions table.now) number kinds }
-    ensures as_defined { IfOk result
-        (λ t. view t ≡ model.example (shape_at (expansions table.now) number)) }
+    requires within { number < length table.now }
+    requires kept { kinds_over table.now kinds ≡ kept (shape_at table.now number) }
+    requires below { AreKindsAt table.now number kinds }
+    ensures as_defined { IfOk result (λ t. view t ≡ model.example (shape_at table.now number)) }
 {
     if let Some(arrays) = kinds.arrays {
         let mut trees = Vec::with_capacity(alloc, arrays.first.len())?;
@@ -90,10 +86,10 @@ pub(crate) fn push_examples(
     bound: usize,
     trees: &mut Vec<Tree>,
 ) -> Result<(), OutOfMemory>
-    requires within { bound ≤ length (expansions table.now) }
+    requires within { bound ≤ length table.now }
     requires below { AreBelow bound numbers.now }
     ensures put { IfOk result (λ _. map view trees.new.items
-        ≡ map view trees.old.items ++ examples_at (expansions table.now) numbers.now) }
+        ≡ map view trees.old.items ++ examples_at table.now numbers.now) }
 {
     for number in numbers {
         trees.push(build(table, alloc, *number)?)?;
@@ -111,11 +107,11 @@ pub(crate) fn build_needed(
     omitted: Option<&String>,
     bound: usize,
 ) -> Result<BTreeMap<String, Tree>, OutOfMemory>
-    requires within { bound ≤ length (expansions table.now) }
+    requires within { bound ≤ length table.now }
     requires below { AreBelow bound (numbers_in fields.now.entries) }
     ensures built { IfOk result (λ m. entries_view m.entries
         ≡ without (option_map (λ name. string_bytes name.now) omitted.entry)
-        (model.needed_examples (fields_at (expansions table.now) fields.now.entries))) }
+        (model.needed_examples (fields_at table.now fields.now.entries))) }
 {
     let mut built = BTreeMap::new(alloc);
     for (name, field) in fields.iter() {

@@ -2,7 +2,7 @@
 ghost use Rattle.std.specs.Prelude.{◌≡◌, IfOk, IsTrue};
 ghost use Rattle.asl_shape.specs.Properness.{is_proper, are_proper, fields_proper, arrays_proper, objects_proper};
 ghost use Rattle.asl_shape.specs.View.{view, shapes_view, fields_view};
-ghost use Rattle.asl_numbered.specs.Expansion.{expansions, shape_at, shapes_at, fields_at, numbers_in, AreBelow};
+ghost use Rattle.asl_numbered.specs.Expansion.{shape_at, shapes_at, fields_at, numbers_in, AreBelow};
 ghost use Rattle.asl_numbered.specs.TakenApart.{arrays_over, objects_over, kinds_over, AreArraysIfAny, AreObjectsIfAny, AreKindsAt};
 ghost use Rattle.asl_shape.specs.Kinds.{owned_arrays_view, owned_objects_view};
 
@@ -17,7 +17,7 @@ use std::collections::BTreeMap;
 /// The shape of that number; `Never` where there is none.
 #[cycle(expand)]
 pub(crate) fn expand(table: &Table, alloc: Global, number: usize) -> Result<Shape, OutOfMemory>
-    ensures expanded { IfOk result (λ s. view s ≡ shape_at (expansions table.now) number) }
+    ensures expanded { IfOk result (λ s. view s ≡ shape_at table.now number) }
     ensures proper { IfOk result (λ s. IsTrue (is_proper s)) }
 {
     match take_apart(table, number) {
@@ -34,8 +34,8 @@ fn expand_kinds(
     number: usize,
     kinds: NodeKinds<'_>,
 ) -> Result<Shape, OutOfMemory>
-    requires { AreKindsAt (expansions table.now) number kinds }
-    ensures expanded { IfOk result (λ s. view s ≡ kinds_over (expansions table.now) kinds.entry) }
+    requires { AreKindsAt table.now number kinds }
+    ensures expanded { IfOk result (λ s. view s ≡ kinds_over table.now kinds.entry) }
     ensures proper { IfOk result (λ s. IsTrue (is_proper s)) }
 {
     let arrays = expand_arrays(table, alloc, number, kinds.arrays)?;
@@ -59,9 +59,9 @@ fn expand_arrays(
     number: usize,
     arrays: Option<NodeArrays<'_>>,
 ) -> Result<Option<OwnedArrays>, OutOfMemory>
-    requires { AreArraysIfAny (expansions table.now) number arrays }
+    requires { AreArraysIfAny table.now number arrays }
     ensures expanded { IfOk result
-        (λ owned. owned_arrays_view owned ≡ arrays_over (expansions table.now) arrays.entry) }
+        (λ owned. owned_arrays_view owned ≡ arrays_over table.now arrays.entry) }
     ensures proper { IfOk result (λ owned. IsTrue (arrays_proper owned)) }
 {
     let Some(lists) = arrays else {
@@ -83,9 +83,9 @@ fn expand_objects(
     number: usize,
     objects: Option<NodeObjects<'_>>,
 ) -> Result<Option<OwnedObjects>, OutOfMemory>
-    requires { AreObjectsIfAny (expansions table.now) number objects }
+    requires { AreObjectsIfAny table.now number objects }
     ensures expanded { IfOk result
-        (λ owned. owned_objects_view owned ≡ objects_over (expansions table.now) objects.entry) }
+        (λ owned. owned_objects_view owned ≡ objects_over table.now objects.entry) }
     ensures proper { IfOk result (λ owned. IsTrue (objects_proper owned)) }
 {
     let Some(mentions) = objects else {
@@ -108,8 +108,7 @@ fn expand_all(
     bound: usize,
 ) -> Result<Vec<Shape>, OutOfMemory>
     requires { AreBelow bound numbers.now }
-    ensures expanded { IfOk result
-        (λ v. shapes_view v.items ≡ shapes_at (expansions table.now) numbers.now) }
+    ensures expanded { IfOk result (λ v. shapes_view v.items ≡ shapes_at table.now numbers.now) }
     ensures proper { IfOk result (λ v. IsTrue (are_proper v.items)) }
 {
     let mut shapes = Vec::with_capacity(alloc, numbers.len())?;
@@ -129,7 +128,7 @@ fn expand_fields(
 ) -> Result<BTreeMap<String, Field>, OutOfMemory>
     requires { AreBelow bound (numbers_in fields.now.entries) }
     ensures expanded { IfOk result
-        (λ m. fields_view m.entries ≡ fields_at (expansions table.now) fields.now.entries) }
+        (λ m. fields_view m.entries ≡ fields_at table.now fields.now.entries) }
     ensures proper { IfOk result (λ m. IsTrue (fields_proper m.entries)) }
 {
     let mut expanded = BTreeMap::new(alloc);

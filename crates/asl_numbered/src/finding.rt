@@ -9,7 +9,7 @@ ghost use Rattle.asl_model.specs.ShapeOrder.{sub};
 ghost use Rattle.asl_model.specs.Shape as shape;
 ghost use Rattle.asl_model.specs.Tree as json;
 ghost use Rattle.asl_numbered.specs.Comparison.{AreRight};
-ghost use Rattle.asl_numbered.specs.Expansion.{expansions, shape_at, fields_at, numbers_in, AreBelow};
+ghost use Rattle.asl_numbered.specs.Expansion.{shape_at, fields_at, numbers_in, AreBelow};
 ghost use Rattle.asl_numbered.specs.Joins.{kept, AreKindsWithin};
 ghost use Rattle.asl_numbered.specs.Outside.{first_shape, first_simple, places_over, mentions_over, levels_over, simple_in, found_elements, found_fields, mentioned_fields, unmentioned_fields, forbidden_fields, IsSought, IsFound, AreLivePlaces, AreLiveMentions, AreLiveLevels};
 ghost use Rattle.asl_numbered.specs.TakenApart.{simple_of, arrays_over, objects_over, kinds_over, taken_apart, AreArraysAt, AreObjectsAt, AreArraysIfAny, AreObjectsIfAny, AreKindsAt};
@@ -124,13 +124,13 @@ pub(crate) fn find<'t>(
     none: &'t BTreeMap<String, NodeField>,
     sought: Sought,
 ) -> Result<Option<Found<'t>>, OutOfMemory>
-    requires right { AreRight (expansions table.now) compared.old.entries }
-    requires sought { IsSought (expansions table.now) (length (expansions table.now)) sought }
+    requires right { AreRight table.now compared.old.entries }
+    requires sought { IsSought table.now (length table.now) sought }
     requires none { none.now.entries ≡ [] }
-    ensures found { IfOk result (IsFound (expansions table.now) sought.second
-        (model.outside (first_shape (expansions table.now) sought.first)
-        (shape_at (expansions table.now) sought.second))) }
-    ensures right { AreRight (expansions table.now) compared.new.entries }
+    ensures found { IfOk result (IsFound table.now sought.second
+        (model.outside (first_shape table.now sought.first)
+        (shape_at table.now sought.second))) }
+    ensures right { AreRight table.now compared.new.entries }
 {
     match take_apart(table, sought.second) {
         None => Ok(None),
@@ -147,11 +147,11 @@ fn levels_of<'t>(
     none: &'t BTreeMap<String, NodeField>,
     first: Option<usize>,
 ) -> Levels<'t>
-    requires first { IfSome first (λ n. n < length (expansions table.now)) }
+    requires first { IfSome first (λ n. n < length table.now) }
     requires none { none.now.entries ≡ [] }
-    ensures shown { (b : shape.Shape) → model.outside (first_shape (expansions table.now) first) b
-        ≡ model.outside (levels_over (expansions table.now) result) b }
-    ensures live { AreLiveLevels (expansions table.now) result }
+    ensures shown { (b : shape.Shape) → model.outside (first_shape table.now first) b
+        ≡ model.outside (levels_over table.now result) b }
+    ensures live { AreLiveLevels table.now result }
 {
     match first_kinds(table, first) {
         None => Levels {
@@ -181,10 +181,9 @@ fn levels_of<'t>(
 
 // What is kept of the first shape's kinds; `None` for `Any`.
 fn first_kinds(table: &Table, first: Option<usize>) -> Option<NodeKinds<'_>>
-    requires { IfSome first (λ n. n < length (expansions table.now)) }
-    ensures kept { taken_apart (expansions table.now) result
-        ≡ kept (first_shape (expansions table.now) first) }
-    ensures within { IfSome result (AreKindsWithin (expansions table.now)) }
+    requires { IfSome first (λ n. n < length table.now) }
+    ensures kept { taken_apart table.now result ≡ kept (first_shape table.now first) }
+    ensures within { IfSome result (AreKindsWithin table.now) }
 {
     kept_kinds(table, first?)
 }
@@ -224,14 +223,14 @@ fn find_kind<'t>(
     outer: NodeKinds<'t>,
     bound: usize,
 ) -> Result<Option<Found<'t>>, OutOfMemory>
-    requires right { AreRight (expansions table.now) compared.old.entries }
-    requires inner { AreLiveLevels (expansions table.now) inner }
-    requires outer { AreKindsAt (expansions table.now) bound outer }
-    requires bound { bound < length (expansions table.now) }
-    ensures found { IfOk result (IsFound (expansions table.now) bound
-        (model.outside (levels_over (expansions table.now) inner.entry)
-        (kinds_over (expansions table.now) outer.entry))) }
-    ensures right { AreRight (expansions table.now) compared.new.entries }
+    requires right { AreRight table.now compared.old.entries }
+    requires inner { AreLiveLevels table.now inner }
+    requires outer { AreKindsAt table.now bound outer }
+    requires bound { bound < length table.now }
+    ensures found { IfOk result (IsFound table.now bound
+        (model.outside (levels_over table.now inner.entry)
+        (kinds_over table.now outer.entry))) }
+    ensures right { AreRight table.now compared.new.entries }
 {
     let list = find_list(table, compared, alloc, inner.places, outer.arrays, bound)?;
     if list.is_some() {
@@ -274,12 +273,12 @@ fn is_inside(
     alloc: Global,
     sought: Sought,
 ) -> Result<bool, OutOfMemory>
-    requires right { AreRight (expansions table.now) compared.old.entries }
-    requires sought { IsSought (expansions table.now) (length (expansions table.now)) sought }
+    requires right { AreRight table.now compared.old.entries }
+    requires sought { IsSought table.now (length table.now) sought }
     ensures as_defined { IfOk result (λ b. b
-        ≡ sub (first_shape (expansions table.now) sought.first)
-        (shape_at (expansions table.now) sought.second)) }
-    ensures right { AreRight (expansions table.now) compared.new.entries }
+        ≡ sub (first_shape table.now sought.first)
+        (shape_at table.now sought.second)) }
+    ensures right { AreRight table.now compared.new.entries }
 {
     match sought.first {
         None => Ok(table.takes_all(sought.second)),
@@ -304,15 +303,15 @@ fn find_list<'t>(
     outer: Option<NodeArrays<'t>>,
     bound: usize,
 ) -> Result<Option<Found<'t>>, OutOfMemory>
-    requires right { AreRight (expansions table.now) compared.old.entries }
-    requires inner { IfSome inner (AreLivePlaces (expansions table.now)) }
-    requires outer { AreArraysIfAny (expansions table.now) bound outer }
-    requires bound { bound < length (expansions table.now) }
-    ensures found { IfOk result (IsFound (expansions table.now) bound
+    requires right { AreRight table.now compared.old.entries }
+    requires inner { IfSome inner (AreLivePlaces table.now) }
+    requires outer { AreArraysIfAny table.now bound outer }
+    requires bound { bound < length table.now }
+    ensures found { IfOk result (IsFound table.now bound
         (option_map json.Array
-        (model.arrays_outside (places_over (expansions table.now) inner.entry)
-        (arrays_over (expansions table.now) outer.entry)))) }
-    ensures right { AreRight (expansions table.now) compared.new.entries }
+        (model.arrays_outside (places_over table.now inner.entry)
+        (arrays_over table.now outer.entry)))) }
+    ensures right { AreRight table.now compared.new.entries }
 {
     let Some(inner) = inner else {
         return Ok(None);
@@ -339,14 +338,14 @@ fn find_place<'t>(
     outer: NodeArrays<'t>,
     bound: usize,
 ) -> Result<Option<Found<'t>>, OutOfMemory>
-    requires right { AreRight (expansions table.now) compared.old.entries }
-    requires inner { AreLivePlaces (expansions table.now) inner }
-    requires outer { AreArraysAt (expansions table.now) bound outer }
-    requires bound { bound < length (expansions table.now) }
+    requires right { AreRight table.now compared.old.entries }
+    requires inner { AreLivePlaces table.now inner }
+    requires outer { AreArraysAt table.now bound outer }
+    requires bound { bound < length table.now }
     requires enough { length outer.first.now ≤ length inner.places.now }
-    ensures found { IfOk result (IsFound (expansions table.now) bound
-        (option_map json.Array (found_elements (expansions table.now) inner.entry outer.entry))) }
-    ensures right { AreRight (expansions table.now) compared.new.entries }
+    ensures found { IfOk result (IsFound table.now bound
+        (option_map json.Array (found_elements table.now inner.entry outer.entry))) }
+    ensures right { AreRight table.now compared.new.entries }
 {
     let mut left = outer.first.iter();
     for index in 0..inner.places.len() {
@@ -392,15 +391,15 @@ fn find_object<'t>(
     outer: Option<NodeObjects<'t>>,
     bound: usize,
 ) -> Result<Option<Found<'t>>, OutOfMemory>
-    requires right { AreRight (expansions table.now) compared.old.entries }
-    requires inner { IfSome inner (AreLiveMentions (expansions table.now)) }
-    requires outer { AreObjectsIfAny (expansions table.now) bound outer }
-    requires bound { bound < length (expansions table.now) }
-    ensures found { IfOk result (IsFound (expansions table.now) bound
+    requires right { AreRight table.now compared.old.entries }
+    requires inner { IfSome inner (AreLiveMentions table.now) }
+    requires outer { AreObjectsIfAny table.now bound outer }
+    requires bound { bound < length table.now }
+    ensures found { IfOk result (IsFound table.now bound
         (option_map json.Object
-        (model.objects_outside (mentions_over (expansions table.now) inner.entry)
-        (objects_over (expansions table.now) outer.entry)))) }
-    ensures right { AreRight (expansions table.now) compared.new.entries }
+        (model.objects_outside (mentions_over table.now inner.entry)
+        (objects_over table.now outer.entry)))) }
+    ensures right { AreRight table.now compared.new.entries }
 {
     let Some(inner) = inner else {
         return Ok(None);
@@ -445,13 +444,13 @@ fn find_fields<'t>(
     outer: NodeObjects<'t>,
     bound: usize,
 ) -> Result<Option<Found<'t>>, OutOfMemory>
-    requires right { AreRight (expansions table.now) compared.old.entries }
-    requires inner { AreLiveMentions (expansions table.now) inner }
-    requires outer { AreObjectsAt (expansions table.now) bound outer }
-    requires bound { bound < length (expansions table.now) }
-    ensures found { IfOk result (IsFound (expansions table.now) bound
-        (option_map json.Object (found_fields (expansions table.now) inner.entry outer.entry))) }
-    ensures right { AreRight (expansions table.now) compared.new.entries }
+    requires right { AreRight table.now compared.old.entries }
+    requires inner { AreLiveMentions table.now inner }
+    requires outer { AreObjectsAt table.now bound outer }
+    requires bound { bound < length table.now }
+    ensures found { IfOk result (IsFound table.now bound
+        (option_map json.Object (found_fields table.now inner.entry outer.entry))) }
+    ensures right { AreRight table.now compared.new.entries }
 {
     let mentioned = find_mentioned(table, compared, alloc, inner.fields, outer.fields, bound)?;
     if mentioned.is_some() {
@@ -473,14 +472,14 @@ fn find_mentioned<'t>(
     outer: &'t BTreeMap<String, NodeField>,
     bound: usize,
 ) -> Result<Option<Found<'t>>, OutOfMemory>
-    requires right { AreRight (expansions table.now) compared.old.entries }
-    requires inner { AreBelow (length (expansions table.now)) (numbers_in inner.now.entries) }
+    requires right { AreRight table.now compared.old.entries }
+    requires inner { AreBelow (length table.now) (numbers_in inner.now.entries) }
     requires outer { AreBelow bound (numbers_in outer.now.entries) }
-    requires bound { bound < length (expansions table.now) }
-    ensures found { IfOk result (IsFound (expansions table.now) bound
+    requires bound { bound < length table.now }
+    ensures found { IfOk result (IsFound table.now bound
         (option_map json.Object
-        (mentioned_fields (expansions table.now) inner.now.entries outer.now.entries))) }
-    ensures right { AreRight (expansions table.now) compared.new.entries }
+        (mentioned_fields table.now inner.now.entries outer.now.entries))) }
+    ensures right { AreRight table.now compared.new.entries }
 {
     for (name, field) in outer.iter() {
         if let Some(other) = inner.get(name) {
@@ -511,12 +510,11 @@ fn find_unmentioned<'t>(
     outer: &'t BTreeMap<String, NodeField>,
     bound: usize,
 ) -> Option<Found<'t>>
-    requires inner { AreBelow (length (expansions table.now))
-        (numbers_in inner.fields.now.entries) }
+    requires inner { AreBelow (length table.now) (numbers_in inner.fields.now.entries) }
     requires outer { AreBelow bound (numbers_in outer.now.entries) }
-    ensures { IsFound (expansions table.now) bound
+    ensures { IsFound table.now bound
         (option_map json.Object
-        (unmentioned_fields (expansions table.now) inner.entry outer.now.entries)) result }
+        (unmentioned_fields table.now inner.entry outer.now.entries)) result }
 {
     for (name, field) in outer.iter() {
         if inner.more && !inner.fields.contains_key(name) && !table.takes_all(field.shape) {
@@ -544,11 +542,10 @@ fn find_forbidden<'t>(
     inner: Mentions<'t>,
     outer: &'t BTreeMap<String, NodeField>,
 ) -> Option<Found<'t>>
-    requires inner { AreBelow (length (expansions table.now))
-        (numbers_in inner.fields.now.entries) }
-    ensures { (bound : ℕ) → IsFound (expansions table.now) bound
+    requires inner { AreBelow (length table.now) (numbers_in inner.fields.now.entries) }
+    ensures { (bound : ℕ) → IsFound table.now bound
         (option_map json.Object
-        (forbidden_fields (expansions table.now) inner.entry outer.now.entries)) result }
+        (forbidden_fields table.now inner.entry outer.now.entries)) result }
 {
     let fields = inner.fields;
     for (name, field) in fields.iter() {

@@ -12,7 +12,7 @@ ghost use Rattle.asl_model.specs.ShapeOrder as order;
 ghost use Rattle.asl_numbered.specs.declared.joining.JoinTask.TheVariants.{Join, Finish};
 ghost use Rattle.asl_numbered.specs.declared.joining.Part.TheVariants.{Level};
 ghost use Rattle.asl_numbered.specs.Comparison.{IsWithin};
-ghost use Rattle.asl_numbered.specs.Expansion.{expansions, shape_at, AreBelow, Keeps, Shows};
+ghost use Rattle.asl_numbered.specs.Expansion.{shape_at, AreBelow, Keeps, Shows};
 ghost use Rattle.asl_numbered.specs.Joins.{joint, kept, AreJoins, AreInhabited, IsTaskWithin, IsFed, Moves, AreArraysWithin, AreObjectsWithin, AreKindsWithin, AreKindsOf, AreMadeOf, IsPartWithin, IsPutPart, AreJoined, IsArrayJoin, IsObjectJoin, AreJoinedFields, AreWithOthers, IsListOf, array_joins, step_of, found_in, place_joinings, joinings_with, list_joinings, array_joinings, object_joinings, field_joinings};
 ghost use Rattle.asl_numbered.specs.TakenApart.{arrays_over, objects_over, taken_apart, AreKindsAt};
 ghost use Rattle.std.specs.Prelude.{◌≡◌, ◌<◌, ◌++◌, List, None, Some, IfSome, IfOk, drop, false, length};
@@ -80,12 +80,11 @@ pub(crate) fn join(
     alloc: Global,
     pair: Pair,
 ) -> Result<usize, OutOfMemory>
-    requires right { AreJoins (expansions table.old) joined.old.entries }
-    requires within { IsWithin (expansions table.old) pair }
-    ensures number { IfOk result
-        (Shows (expansions table.new) (joint (expansions table.old) pair)) }
-    ensures keeps { Keeps (expansions table.old) (expansions table.new) }
-    ensures right { AreJoins (expansions table.new) joined.new.entries }
+    requires right { AreJoins table.old joined.old.entries }
+    requires within { IsWithin table.old pair }
+    ensures number { IfOk result (Shows table.new (joint table.old pair)) }
+    ensures keeps { Keeps table.old table.new }
+    ensures right { AreJoins table.new joined.new.entries }
 {
     match known(table, joined, pair) {
         Some(number) => Ok(number),
@@ -100,12 +99,11 @@ fn find_join(
     alloc: Global,
     pair: Pair,
 ) -> Result<usize, OutOfMemory>
-    requires right { AreJoins (expansions table.old) joined.old.entries }
-    requires within { IsWithin (expansions table.old) pair }
-    ensures number { IfOk result
-        (Shows (expansions table.new) (joint (expansions table.old) pair)) }
-    ensures keeps { Keeps (expansions table.old) (expansions table.new) }
-    ensures right { AreJoins (expansions table.new) joined.new.entries }
+    requires right { AreJoins table.old joined.old.entries }
+    requires within { IsWithin table.old pair }
+    ensures number { IfOk result (Shows table.new (joint table.old pair)) }
+    ensures keeps { Keeps table.old table.new }
+    ensures right { AreJoins table.new joined.new.entries }
 {
     let mut work = Work {
         alloc,
@@ -126,16 +124,15 @@ fn perform(
     work: &mut Work,
     task: JoinTask,
 ) -> Result<(), OutOfMemory>
-    requires right { AreJoins (expansions table.old) joined.old.entries }
-    requires within { IsTaskWithin (expansions table.old) task }
-    requires below { AreBelow (length (expansions table.old)) work.old.numbers.items }
-    requires fed { IsFed (step_of (expansions table.old) task)
-        (found_in (expansions table.old) work.old.numbers.items) }
+    requires right { AreJoins table.old joined.old.entries }
+    requires within { IsTaskWithin table.old task }
+    requires below { AreBelow (length table.old) work.old.numbers.items }
+    requires fed { IsFed (step_of table.old task) (found_in table.old work.old.numbers.items) }
     ensures moves { IfOk result
-        (λ _. Moves (expansions table.old) (expansions table.new) task
+        (λ _. Moves table.old table.new task
         work.old.tasks.items work.new.tasks.items work.old.numbers.items work.new.numbers.items) }
-    ensures keeps { Keeps (expansions table.old) (expansions table.new) }
-    ensures right { AreJoins (expansions table.new) joined.new.entries }
+    ensures keeps { Keeps table.old table.new }
+    ensures right { AreJoins table.new joined.new.entries }
 {
     match task {
         JoinTask::Join(pair) => look(table, joined, work, pair),
@@ -159,11 +156,11 @@ fn perform(
 
 // Puts the number of the join of the two shapes behind the numbers, or what leads to it behind the tasks.
 fn look(table: &Table, joined: &Joined, work: &mut Work, pair: Pair) -> Result<(), OutOfMemory>
-    requires right { AreJoins (expansions table.now) joined.now.entries }
-    requires within { IsWithin (expansions table.now) pair }
-    requires below { AreBelow (length (expansions table.now)) work.old.numbers.items }
+    requires right { AreJoins table.now joined.now.entries }
+    requires within { IsWithin table.now pair }
+    requires below { AreBelow (length table.now) work.old.numbers.items }
     ensures moves { IfOk result
-        (λ _. Moves (expansions table.now) (expansions table.now) (Join pair)
+        (λ _. Moves table.now table.now (Join pair)
         work.old.tasks.items work.new.tasks.items work.old.numbers.items work.new.numbers.items) }
 {
     match known(table, joined, pair) {
@@ -178,11 +175,10 @@ fn look(table: &Table, joined: &Joined, work: &mut Work, pair: Pair) -> Result<(
 // The number of the join, where one of the shapes isn't inhabited, where both are one of which nothing is left out, or
 // where it is remembered.
 fn known(table: &Table, joined: &Joined, pair: Pair) -> Option<usize>
-    requires right { AreJoins (expansions table.now) joined.now.entries }
-    requires within { IsWithin (expansions table.now) pair }
-    ensures number { IfSome result
-        (Shows (expansions table.now) (joint (expansions table.now) pair)) }
-    ensures inhabited { result ≡ None → AreInhabited (expansions table.now) pair }
+    requires right { AreJoins table.now joined.now.entries }
+    requires within { IsWithin table.now pair }
+    ensures number { IfSome result (Shows table.now (joint table.now pair)) }
+    ensures inhabited { result ≡ None → AreInhabited table.now pair }
 {
     if !table.is_inhabited(pair.first) {
         return Some(pair.second);
@@ -202,11 +198,11 @@ fn known(table: &Table, joined: &Joined, pair: Pair) -> Option<usize>
 
 // Puts down the task that finishes the join of two shapes that are inhabited, and behind it the joins of their parts.
 fn look_inside(table: &Table, work: &mut Work, pair: Pair) -> Result<(), OutOfMemory>
-    requires within { IsWithin (expansions table.now) pair }
-    requires inhabited { AreInhabited (expansions table.now) pair }
-    requires below { AreBelow (length (expansions table.now)) work.old.numbers.items }
+    requires within { IsWithin table.now pair }
+    requires inhabited { AreInhabited table.now pair }
+    requires below { AreBelow (length table.now) work.old.numbers.items }
     ensures moves { IfOk result
-        (λ _. Moves (expansions table.now) (expansions table.now) (Join pair)
+        (λ _. Moves table.now table.now (Join pair)
         work.old.tasks.items work.new.tasks.items work.old.numbers.items work.new.numbers.items) }
 {
     let start = work.numbers.len();
@@ -224,8 +220,8 @@ fn look_inside(table: &Table, work: &mut Work, pair: Pair) -> Result<(), OutOfMe
 // What each of the two shapes takes of each kind, without lists or objects where there are none such;
 // none where one is `Any`.
 fn kinds_of_both<'t>(table: &'t Table, pair: Pair) -> Option<(NodeKinds<'t>, NodeKinds<'t>)>
-    requires within { IsWithin (expansions table.now) pair }
-    ensures both { AreKindsOf (expansions table.now) pair result }
+    requires within { IsWithin table.now pair }
+    ensures both { AreKindsOf table.now pair result }
 {
     let first = kept_kinds(table, pair.first)?;
     let second = kept_kinds(table, pair.second)?;
@@ -234,11 +230,10 @@ fn kinds_of_both<'t>(table: &'t Table, pair: Pair) -> Option<(NodeKinds<'t>, Nod
 
 /// What the shape takes of each kind, without lists or objects where there are none such; none where it is `Any`.
 pub(crate) fn kept_kinds(table: &Table, number: usize) -> Option<NodeKinds<'_>>
-    requires within { number < length (expansions table.now) }
-    ensures kept { taken_apart (expansions table.now) result
-        ≡ kept (shape_at (expansions table.now) number) }
-    ensures within { IfSome result (AreKindsWithin (expansions table.now)) }
-    ensures below { IfSome result (AreKindsAt (expansions table.now) number) }
+    requires within { number < length table.now }
+    ensures kept { taken_apart table.now result ≡ kept (shape_at table.now number) }
+    ensures within { IfSome result (AreKindsWithin table.now) }
+    ensures below { IfSome result (AreKindsAt table.now number) }
 {
     let kinds = take_apart(table, number)?;
     Some(NodeKinds {
@@ -250,10 +245,10 @@ pub(crate) fn kept_kinds(table: &Table, number: usize) -> Option<NodeKinds<'_>>
 
 // The lists, if there are any such.
 fn kept_arrays<'t>(table: &Table, arrays: Option<NodeArrays<'t>>) -> Option<NodeArrays<'t>>
-    requires within { AreArraysWithin (expansions table.now) arrays }
-    ensures kept { arrays_over (expansions table.now) result
-        ≡ order.kept_arrays (arrays_over (expansions table.now) arrays.entry) }
-    ensures within { AreArraysWithin (expansions table.now) result }
+    requires within { AreArraysWithin table.now arrays }
+    ensures kept { arrays_over table.now result
+        ≡ order.kept_arrays (arrays_over table.now arrays.entry) }
+    ensures within { AreArraysWithin table.now result }
     ensures same { IfSome result (λ lists. arrays.entry ≡ Some lists) }
 {
     match arrays {
@@ -264,10 +259,10 @@ fn kept_arrays<'t>(table: &Table, arrays: Option<NodeArrays<'t>>) -> Option<Node
 
 // The objects, if there are any such.
 fn kept_objects<'t>(table: &Table, objects: Option<NodeObjects<'t>>) -> Option<NodeObjects<'t>>
-    requires within { AreObjectsWithin (expansions table.now) objects }
-    ensures kept { objects_over (expansions table.now) result
-        ≡ order.kept_objects (objects_over (expansions table.now) objects.entry) }
-    ensures within { AreObjectsWithin (expansions table.now) result }
+    requires within { AreObjectsWithin table.now objects }
+    ensures kept { objects_over table.now result
+        ≡ order.kept_objects (objects_over table.now objects.entry) }
+    ensures within { AreObjectsWithin table.now result }
     ensures same { IfSome result (λ mentions. objects.entry ≡ Some mentions) }
 {
     match objects {
@@ -394,16 +389,16 @@ fn finish(
     pair: Pair,
     start: usize,
 ) -> Result<(), OutOfMemory>
-    requires right { AreJoins (expansions table.old) joined.old.entries }
-    requires within { IsWithin (expansions table.old) pair }
-    requires below { AreBelow (length (expansions table.old)) work.old.numbers.items }
-    requires fed { IsFed (step_of (expansions table.old) (Finish pair start))
-        (found_in (expansions table.old) work.old.numbers.items) }
+    requires right { AreJoins table.old joined.old.entries }
+    requires within { IsWithin table.old pair }
+    requires below { AreBelow (length table.old) work.old.numbers.items }
+    requires fed { IsFed (step_of table.old (Finish pair start))
+        (found_in table.old work.old.numbers.items) }
     ensures moves { IfOk result
-        (λ _. Moves (expansions table.old) (expansions table.new) (Finish pair start)
+        (λ _. Moves table.old table.new (Finish pair start)
         work.old.tasks.items work.new.tasks.items work.old.numbers.items work.new.numbers.items) }
-    ensures keeps { Keeps (expansions table.old) (expansions table.new) }
-    ensures right { AreJoins (expansions table.new) joined.new.entries }
+    ensures keeps { Keeps table.old table.new }
+    ensures right { AreJoins table.new joined.new.entries }
 {
     let parts = &work.numbers[start..];
     let number = assemble(table, work.alloc, pair, parts)?;
@@ -432,10 +427,9 @@ fn assemble(
     pair: Pair,
     parts: &[usize],
 ) -> Result<usize, OutOfMemory>
-    requires parts { AreMadeOf (expansions table.old) pair parts.now }
-    ensures number { IfOk result
-        (Shows (expansions table.new) (joint (expansions table.old) pair)) }
-    ensures keeps { Keeps (expansions table.old) (expansions table.new) }
+    requires parts { AreMadeOf table.old pair parts.now }
+    ensures number { IfOk result (Shows table.new (joint table.old pair)) }
+    ensures keeps { Keeps table.old table.new }
 {
     match join_kinds(table, alloc, pair, parts)? {
         None => table.put(Node::Any),
@@ -455,9 +449,9 @@ fn assemble(
 
 // The number of the part, where there is one.
 fn put_part(table: &mut Table, part: Option<Part>) -> Result<Option<usize>, OutOfMemory>
-    requires within { IfSome part (IsPartWithin (expansions table.old)) }
-    ensures number { IfOk result (IsPutPart (expansions table.old) (expansions table.new) part) }
-    ensures keeps { Keeps (expansions table.old) (expansions table.new) }
+    requires within { IfSome part (IsPartWithin table.old) }
+    ensures number { IfOk result (IsPutPart table.old table.new part) }
+    ensures keeps { Keeps table.old table.new }
 {
     match part {
         None => Ok(None),
@@ -473,9 +467,8 @@ fn join_kinds(
     pair: Pair,
     parts: &[usize],
 ) -> Result<Option<JoinedKinds>, OutOfMemory>
-    requires parts { AreMadeOf (expansions table.now) pair parts.now }
-    ensures kinds { IfOk result
-        (λ r. AreJoined (expansions table.now) r (joint (expansions table.now) pair)) }
+    requires parts { AreMadeOf table.now pair parts.now }
+    ensures kinds { IfOk result (λ r. AreJoined table.now r (joint table.now pair)) }
 {
     match kinds_of_both(table, pair) {
         None => Ok(None),

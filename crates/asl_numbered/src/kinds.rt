@@ -2,7 +2,7 @@
 ghost use Rattle.std.specs.Prelude.{◌≡◌, ◌++◌, ℕ, List, IfOk, IfSome, length, map, option_to_list};
 ghost use Rattle.asl_model.specs.Shape as model;
 ghost use Rattle.asl_shape.specs.View.{merged};
-ghost use Rattle.asl_numbered.specs.Expansion.{expansions, shape_at, shape_over, AreBelow, RefersBelow, IsNumberOf, Keeps};
+ghost use Rattle.asl_numbered.specs.Expansion.{shape_at, shape_over, AreBelow, RefersBelow, IsNumberOf, Keeps};
 ghost use Rattle.asl_numbered.specs.Kinds.{AscendFrom, IsSimple};
 ghost use Rattle.asl_numbered.specs.TakenApart as taken;
 ghost use Rattle.asl_numbered.specs.TakenApart.{taken_apart, both_kinds, arrays_at, objects_at, kinds_at, arrays_part, objects_part, part_if, parts_of, AreKindsAt, AreListed};
@@ -72,9 +72,8 @@ pub struct KindNumbers {
 /// What the shape of that number takes of each kind; `None` where it is `Any`. Takes no memory.
 #[cycle(take_apart)]
 pub(crate) fn take_apart(table: &Table, number: usize) -> Option<NodeKinds<'_>>
-    ensures shown { taken_apart (expansions table.now) result
-        ≡ shape_at (expansions table.now) number }
-    ensures within { IfSome result (AreKindsAt (expansions table.now) number) }
+    ensures shown { taken_apart table.now result ≡ shape_at table.now number }
+    ensures within { IfSome result (AreKindsAt table.now number) }
 {
     match table.node(number) {
         Some(node) => take_node_apart(table, number, node),
@@ -85,12 +84,10 @@ pub(crate) fn take_apart(table: &Table, number: usize) -> Option<NodeKinds<'_>>
 // The same for the number's node.
 #[cycle(take_apart)]
 fn take_node_apart<'t>(table: &'t Table, number: usize, node: &'t Node) -> Option<NodeKinds<'t>>
-    requires level { shape_over (expansions table.now) node.now
-        ≡ shape_at (expansions table.now) number }
+    requires level { shape_over table.now node.now ≡ shape_at table.now number }
     requires below { RefersBelow number node.now }
-    ensures shown { taken_apart (expansions table.now) result
-        ≡ shape_over (expansions table.now) node.now }
-    ensures within { IfSome result (AreKindsAt (expansions table.now) number) }
+    ensures shown { taken_apart table.now result ≡ shape_over table.now node.now }
+    ensures within { IfSome result (AreKindsAt table.now number) }
 {
     let none = no_kinds(table);
     match node {
@@ -130,9 +127,8 @@ fn take_node_apart<'t>(table: &'t Table, number: usize, node: &'t Node) -> Optio
 #[cycle(take_apart)]
 fn take_each_apart<'t>(table: &'t Table, parts: &[usize], bound: usize) -> Option<NodeKinds<'t>>
     requires { AreBelow bound parts.now }
-    ensures shown { taken_apart (expansions table.now) result
-        ≡ merged (map (shape_at (expansions table.now)) parts.now) }
-    ensures within { IfSome result (AreKindsAt (expansions table.now) bound) }
+    ensures shown { taken_apart table.now result ≡ merged (map (shape_at table.now) parts.now) }
+    ensures within { IfSome result (AreKindsAt table.now bound) }
 {
     let mut kinds = no_kinds(table);
     for part in parts {
@@ -175,9 +171,8 @@ pub(crate) fn put_kinds(
     alloc: Global,
     kinds: KindNumbers,
 ) -> Result<usize, OutOfMemory>
-    ensures number { IfOk result
-        (IsNumberOf (expansions table.new) (kinds_at (expansions table.old) kinds)) }
-    ensures keeps { Keeps (expansions table.old) (expansions table.new) }
+    ensures number { IfOk result (IsNumberOf table.new (kinds_at table.old kinds)) }
+    ensures keeps { Keeps table.old table.new }
 {
     let parts = put_parts(table, alloc, kinds)?;
     put_together(table, parts)
@@ -189,9 +184,9 @@ fn put_parts(
     alloc: Global,
     kinds: KindNumbers,
 ) -> Result<Vec<usize>, OutOfMemory>
-    ensures listed { IfOk result (λ parts. AreListed (expansions table.new)
-        (parts_of (kinds_at (expansions table.old) kinds)) parts.items) }
-    ensures keeps { Keeps (expansions table.old) (expansions table.new) }
+    ensures listed { IfOk result (λ parts. AreListed table.new
+        (parts_of (kinds_at table.old kinds)) parts.items) }
+    ensures keeps { Keeps table.old table.new }
 {
     let arrays = arrays_number(table, kinds.arrays);
     let objects = objects_number(table, kinds.objects);
@@ -207,16 +202,16 @@ fn put_parts(
 
 // The number of the shape of the lists alone that the shape of that number takes.
 fn arrays_number(table: &Table, number: Option<usize>) -> Option<usize>
-    ensures listed { AreListed (expansions table.now)
-        (arrays_part (arrays_at (expansions table.now) number)) (option_to_list result) }
+    ensures listed { AreListed table.now
+        (arrays_part (arrays_at table.now number)) (option_to_list result) }
 {
     Some(take_apart(table, number?)?.arrays?.number)
 }
 
 // The number of the shape of the objects alone that the shape of that number takes.
 fn objects_number(table: &Table, number: Option<usize>) -> Option<usize>
-    ensures listed { AreListed (expansions table.now)
-        (objects_part (objects_at (expansions table.now) number)) (option_to_list result) }
+    ensures listed { AreListed table.now
+        (objects_part (objects_at table.now number)) (option_to_list result) }
 {
     Some(take_apart(table, number?)?.objects?.number)
 }
@@ -240,10 +235,10 @@ fn push_if(
 ) -> Result<(), OutOfMemory>
     requires { IsSimple node }
     ensures listed { (shapes : List model.Shape)
-        → AreListed (expansions table.old) shapes parts.old.items
-        → IfOk result (λ _. AreListed (expansions table.new)
-        (shapes ++ part_if wanted (shape_over (expansions table.old) node)) parts.new.items) }
-    ensures keeps { Keeps (expansions table.old) (expansions table.new) }
+        → AreListed table.old shapes parts.old.items
+        → IfOk result (λ _. AreListed table.new
+        (shapes ++ part_if wanted (shape_over table.old node)) parts.new.items) }
+    ensures keeps { Keeps table.old table.new }
 {
     if wanted {
         parts.push(table.put(node)?)?;
@@ -253,11 +248,11 @@ fn push_if(
 
 // The number of the shape that the shapes of one kind each are together.
 fn put_together(table: &mut Table, parts: Vec<usize>) -> Result<usize, OutOfMemory>
-    requires within { AreBelow (length (expansions table.old)) parts.items }
-    requires ascend { AscendFrom 0 (map (shape_at (expansions table.old)) parts.items) }
-    ensures number { IfOk result (IsNumberOf (expansions table.new)
-        (merged (map (shape_at (expansions table.old)) parts.items))) }
-    ensures keeps { Keeps (expansions table.old) (expansions table.new) }
+    requires within { AreBelow (length table.old) parts.items }
+    requires ascend { AscendFrom 0 (map (shape_at table.old) parts.items) }
+    ensures number { IfOk result (IsNumberOf table.new
+        (merged (map (shape_at table.old) parts.items))) }
+    ensures keeps { Keeps table.old table.new }
 {
     table.are_distinct();
     match parts.len() {

@@ -7,7 +7,7 @@ ghost use Rattle.asl_model.specs.Tree as json;
 ghost use Rattle.asl_tree.specs.View.{view};
 ghost use Rattle.asl_numbered.specs.Comparison.{AreRight};
 ghost use Rattle.asl_numbered.specs.Examples.{examples_at};
-ghost use Rattle.asl_numbered.specs.Expansion.{expansions, shape_at, fields_at, numbers_in, AreBelow};
+ghost use Rattle.asl_numbered.specs.Expansion.{shape_at, fields_at, numbers_in, AreBelow};
 ghost use Rattle.asl_numbered.specs.Outside.{sought_tree, step_over, steps_over, needed_of, numbers_of, IsSought, AreStepsWithin};
 
 use crate::comparing::Compared;
@@ -29,11 +29,11 @@ pub(crate) fn outside(
     alloc: Global,
     sought: Sought,
 ) -> Result<Option<Tree>, OutOfMemory>
-    requires right { AreRight (expansions table.now) compared.old.entries }
-    requires sought { IsSought (expansions table.now) (length (expansions table.now)) sought }
+    requires right { AreRight table.now compared.old.entries }
+    requires sought { IsSought table.now (length table.now) sought }
     ensures as_defined { IfOk result
-        (λ r. option_map view r ≡ sought_tree (expansions table.now) (Some sought)) }
-    ensures right { AreRight (expansions table.now) compared.new.entries }
+        (λ r. option_map view r ≡ sought_tree table.now (Some sought)) }
+    ensures right { AreRight table.now compared.new.entries }
 {
     let none = BTreeMap::new(alloc);
     match find_steps(table, compared, alloc, &none, sought)? {
@@ -53,14 +53,13 @@ fn find_steps<'t>(
     none: &'t BTreeMap<String, NodeField>,
     sought: Sought,
 ) -> Result<Option<Vec<Step<'t>>>, OutOfMemory>
-    requires right { AreRight (expansions table.now) compared.old.entries }
-    requires sought { IsSought (expansions table.now) (length (expansions table.now)) sought }
+    requires right { AreRight table.now compared.old.entries }
+    requires sought { IsSought table.now (length table.now) sought }
     requires none { none.now.entries ≡ [] }
-    ensures found { IfOk result (λ r. sought_tree (expansions table.now) (Some sought)
-        ≡ option_map (λ steps. steps_over (expansions table.now) steps.items json.Null) r) }
-    ensures within { IfOk result
-        (λ r. IfSome r (λ steps. AreStepsWithin (expansions table.now) steps.items)) }
-    ensures right { AreRight (expansions table.now) compared.new.entries }
+    ensures found { IfOk result (λ r. sought_tree table.now (Some sought)
+        ≡ option_map (λ steps. steps_over table.now steps.items json.Null) r) }
+    ensures within { IfOk result (λ r. IfSome r (λ steps. AreStepsWithin table.now steps.items)) }
+    ensures right { AreRight table.now compared.new.entries }
 {
     let mut steps = Vec::new(alloc);
     let mut left = Some(sought);
@@ -109,9 +108,8 @@ fn step_weight(table: &Table, step: Step<'_>) -> usize {
 
 // The tree of the steps, from the innermost on.
 fn build_steps(table: &Table, alloc: Global, mut steps: Vec<Step<'_>>) -> Result<Tree, OutOfMemory>
-    requires { AreStepsWithin (expansions table.now) steps.items }
-    ensures { IfOk result (λ t. view t
-        ≡ steps_over (expansions table.now) steps.entry.items json.Null) }
+    requires { AreStepsWithin table.now steps.items }
+    ensures { IfOk result (λ t. view t ≡ steps_over table.now steps.entry.items json.Null) }
 {
     let mut tree = Tree::Null;
     while let Some(step) = steps.pop() {
@@ -127,9 +125,8 @@ fn build_step(
     step: Step<'_>,
     inside: Tree,
 ) -> Result<Tree, OutOfMemory>
-    requires { AreBelow (length (expansions table.now)) (numbers_of step) }
-    ensures { IfOk result
-        (λ t. view t ≡ step_over (expansions table.now) step.entry (view inside)) }
+    requires { AreBelow (length table.now) (numbers_of step) }
+    ensures { IfOk result (λ t. view t ≡ step_over table.now step.entry (view inside)) }
 {
     match step {
         Step::Examples(places) => {
@@ -169,11 +166,11 @@ fn build_between(
     inside: Tree,
     behind: &[usize],
 ) -> Result<Tree, OutOfMemory>
-    requires before { AreBelow (length (expansions table.now)) before.now }
-    requires behind { AreBelow (length (expansions table.now)) behind.now }
+    requires before { AreBelow (length table.now) before.now }
+    requires behind { AreBelow (length table.now) behind.now }
     ensures { IfOk result (λ t. view t
-        ≡ json.Array (json.trees_of (examples_at (expansions table.now) before.now
-        ++ view inside ∷ examples_at (expansions table.now) behind.now))) }
+        ≡ json.Array (json.trees_of (examples_at table.now before.now
+        ++ view inside ∷ examples_at table.now behind.now))) }
 {
     let mut trees = Vec::new(alloc);
     push_examples(table, alloc, before, table.len(), &mut trees)?;
@@ -190,10 +187,10 @@ fn build_with(
     name: &String,
     inside: Tree,
 ) -> Result<Tree, OutOfMemory>
-    requires { AreBelow (length (expansions table.now)) (numbers_in fields.now.entries) }
+    requires { AreBelow (length table.now) (numbers_in fields.now.entries) }
     ensures { IfOk result (λ t. view t
         ≡ json.Object (set_field (string_bytes name.now) (view inside)
-        (needed_of (expansions table.now) fields.now.entries))) }
+        (needed_of table.now fields.now.entries))) }
 {
     let mut built = build_needed(table, alloc, fields, Some(name), table.len())?;
     drop(built.insert(name.clone()?, inside)?);
@@ -202,9 +199,8 @@ fn build_with(
 
 // A tree of the shape, where there is one: the empty list for `Any`, else the example.
 fn build_first(table: &Table, alloc: Global, number: usize) -> Result<Tree, OutOfMemory>
-    requires { number < length (expansions table.now) }
-    ensures { IfOk result
-        (λ t. view t ≡ model.first_tree (shape_at (expansions table.now) number)) }
+    requires { number < length table.now }
+    ensures { IfOk result (λ t. view t ≡ model.first_tree (shape_at table.now number)) }
 {
     match take_apart(table, number) {
         None => Ok(Tree::List(Vec::new(alloc))),

@@ -6,7 +6,7 @@ ghost use Rattle.asl_model.specs.ShapeSpelling as model;
 ghost use Rattle.asl_shape.specs.Level as levels;
 ghost use Rattle.asl_shape.specs.LevelView.{level_view, list_view, object_view, texts};
 ghost use Rattle.asl_shape.specs.Spelled as trees;
-ghost use Rattle.asl_numbered.specs.Expansion.{expansions, shape_over, fields_at, RefersBelow, numbers_in, AreBelow, AreFieldsOf, Keeps};
+ghost use Rattle.asl_numbered.specs.Expansion.{shape_over, fields_at, RefersBelow, numbers_in, AreBelow, AreFieldsOf, Keeps};
 ghost use Rattle.asl_numbered.specs.Kinds.{IsProperNode};
 ghost use Rattle.asl_numbered.specs.Reading.{AreGiven, IsRead, IsReadOver, AreArraysRead, AreObjectsRead, IsReadRest, AreRead, AreFieldsRead, TellsOneOf};
 ghost use Rattle.asl_model.specs.References.{element_at, meant_by};
@@ -33,11 +33,11 @@ pub(crate) fn read(
 ) -> Result<usize, NumberedRefusal>
     requires { AreGiven (length table.old) (numbers_given given) }
     ensures number { IfOk result
-        (IsRead several (shapes_given (expansions table.old) given.entry) (trees.view tree.now)
-        (expansions table.new)) }
+        (IsRead several (shapes_given table.old given.entry) (trees.view tree.now)
+        table.new) }
     ensures refused { IfErr result
-        (TellsOf several (shapes_given (expansions table.old) given.entry) (trees.view tree.now)) }
-    ensures keeps { Keeps (expansions table.old) (expansions table.new) }
+        (TellsOf several (shapes_given table.old given.entry) (trees.view tree.now)) }
+    ensures keeps { Keeps table.old table.new }
 {
     match referred(tree, given) {
         None => read_spelling(table, alloc, tree, given, several),
@@ -108,11 +108,11 @@ fn read_spelling(
     requires given { AreGiven (length table.old) (numbers_given given) }
     requires spelled { referred_in (numbers_given given) (trees.view tree.now) ≡ None }
     ensures number { IfOk result
-        (IsRead several (shapes_given (expansions table.old) given.entry) (trees.view tree.now)
-        (expansions table.new)) }
+        (IsRead several (shapes_given table.old given.entry) (trees.view tree.now)
+        table.new) }
     ensures refused { IfErr result
-        (TellsOf several (shapes_given (expansions table.old) given.entry) (trees.view tree.now)) }
-    ensures keeps { Keeps (expansions table.old) (expansions table.new) }
+        (TellsOf several (shapes_given table.old given.entry) (trees.view tree.now)) }
+    ensures keeps { Keeps table.old table.new }
 {
     let level = read_level(alloc, tree, several)?;
     read_over(table, alloc, level, given, several)
@@ -130,12 +130,12 @@ fn read_over(
 ) -> Result<usize, NumberedRefusal>
     requires { AreGiven (length table.old) (numbers_given given) }
     ensures number { IfOk result
-        (IsReadOver several (shapes_given (expansions table.old) given.entry)
-        (level_view level.entry) (expansions table.new)) }
+        (IsReadOver several (shapes_given table.old given.entry)
+        (level_view level.entry) table.new) }
     ensures refused { IfErr result
-        (TellsOneOf several (shapes_given (expansions table.old) given.entry)
+        (TellsOneOf several (shapes_given table.old given.entry)
         (inside (level_view level.entry))) }
-    ensures keeps { Keeps (expansions table.old) (expansions table.new) }
+    ensures keeps { Keeps table.old table.new }
 {
     match level {
         Level::Any => Ok(table.put(Node::Any)?),
@@ -174,12 +174,12 @@ fn read_list(
 ) -> Result<Option<usize>, NumberedRefusal>
     requires { AreGiven (length table.old) (numbers_given given) }
     ensures number { IfOk result
-        (AreArraysRead several (shapes_given (expansions table.old) given.entry)
-        (option_map list_view list.entry) (expansions table.new)) }
+        (AreArraysRead several (shapes_given table.old given.entry)
+        (option_map list_view list.entry) table.new) }
     ensures refused { IfErr result
-        (TellsOneOf several (shapes_given (expansions table.old) given.entry)
+        (TellsOneOf several (shapes_given table.old given.entry)
         (list_inside (option_map list_view list.entry))) }
-    ensures keeps { Keeps (expansions table.old) (expansions table.new) }
+    ensures keeps { Keeps table.old table.new }
 {
     let Some(list) = list else {
         return Ok(None);
@@ -200,12 +200,12 @@ fn read_elements(
 ) -> Result<Vec<usize>, NumberedRefusal>
     requires { AreGiven (length table.old) (numbers_given given) }
     ensures numbers { IfOk result
-        (λ v. AreRead several (shapes_given (expansions table.old) given.entry)
-        (trees.elements_view elements.now) (expansions table.new) v.items) }
+        (λ v. AreRead several (shapes_given table.old given.entry)
+        (trees.elements_view elements.now) table.new v.items) }
     ensures refused { IfErr result
-        (TellsOneOf several (shapes_given (expansions table.old) given.entry)
+        (TellsOneOf several (shapes_given table.old given.entry)
         (each_of (trees.elements_view elements.now))) }
-    ensures keeps { Keeps (expansions table.old) (expansions table.new) }
+    ensures keeps { Keeps table.old table.new }
 {
     let mut numbers = Vec::with_capacity(alloc, elements.len())?;
     for element in elements {
@@ -226,12 +226,12 @@ fn read_rest(
 ) -> Result<usize, NumberedRefusal>
     requires { AreGiven (length table.old) (numbers_given given) }
     ensures number { IfOk result
-        (IsReadRest several (shapes_given (expansions table.old) given.entry)
-        (trees.tree_there rest.entry) (expansions table.new)) }
+        (IsReadRest several (shapes_given table.old given.entry)
+        (trees.tree_there rest.entry) table.new) }
     ensures refused { IfErr result
-        (TellsOneOf several (shapes_given (expansions table.old) given.entry)
+        (TellsOneOf several (shapes_given table.old given.entry)
         (option_to_list (trees.tree_there rest.entry))) }
-    ensures keeps { Keeps (expansions table.old) (expansions table.new) }
+    ensures keeps { Keeps table.old table.new }
 {
     match rest {
         None => Ok(table.put(Node::Any)?),
@@ -250,12 +250,12 @@ fn read_object(
 ) -> Result<Option<usize>, NumberedRefusal>
     requires { AreGiven (length table.old) (numbers_given given) }
     ensures number { IfOk result
-        (AreObjectsRead several (shapes_given (expansions table.old) given.entry)
-        (option_map object_view object.entry) (expansions table.new)) }
+        (AreObjectsRead several (shapes_given table.old given.entry)
+        (option_map object_view object.entry) table.new) }
     ensures refused { IfErr result
-        (TellsOneOf several (shapes_given (expansions table.old) given.entry)
+        (TellsOneOf several (shapes_given table.old given.entry)
         (object_inside (option_map object_view object.entry))) }
-    ensures keeps { Keeps (expansions table.old) (expansions table.new) }
+    ensures keeps { Keeps table.old table.new }
 {
     let Some(object) = object else {
         return Ok(None);
@@ -277,12 +277,12 @@ fn read_properties(
 ) -> Result<BTreeMap<String, NodeField>, NumberedRefusal>
     requires { AreGiven (length table.old) (numbers_given given) }
     ensures fields { IfOk result
-        (λ m. AreFieldsRead several (shapes_given (expansions table.old) given.entry)
-        (trees.fields_there properties.entry) (expansions table.new) m.entries) }
+        (λ m. AreFieldsRead several (shapes_given table.old given.entry)
+        (trees.fields_there properties.entry) table.new m.entries) }
     ensures refused { IfErr result
-        (TellsOneOf several (shapes_given (expansions table.old) given.entry)
+        (TellsOneOf several (shapes_given table.old given.entry)
         (values_of (trees.fields_there properties.entry))) }
-    ensures keeps { Keeps (expansions table.old) (expansions table.new) }
+    ensures keeps { Keeps table.old table.new }
 {
     match properties {
         None => Ok(BTreeMap::new(alloc)),
@@ -300,12 +300,12 @@ fn read_members(
 ) -> Result<BTreeMap<String, NodeField>, NumberedRefusal>
     requires { AreGiven (length table.old) (numbers_given given) }
     ensures fields { IfOk result
-        (λ m. AreFieldsRead several (shapes_given (expansions table.old) given.entry)
-        (trees.entries_view members.now.entries) (expansions table.new) m.entries) }
+        (λ m. AreFieldsRead several (shapes_given table.old given.entry)
+        (trees.entries_view members.now.entries) table.new m.entries) }
     ensures refused { IfErr result
-        (TellsOneOf several (shapes_given (expansions table.old) given.entry)
+        (TellsOneOf several (shapes_given table.old given.entry)
         (values_of (trees.entries_view members.now.entries))) }
-    ensures keeps { Keeps (expansions table.old) (expansions table.new) }
+    ensures keeps { Keeps table.old table.new }
 {
     let mut fields = BTreeMap::new(alloc);
     for (name, member) in members.iter() {
@@ -328,11 +328,11 @@ fn require_all(
     fields: &mut BTreeMap<String, NodeField>,
 ) -> Result<(), OutOfMemory>
     requires { AreBelow (length table.old) (numbers_in fields.old.entries) }
-    ensures needed { IfOk result (λ _. AreFieldsOf (expansions table.new)
+    ensures needed { IfOk result (λ _. AreFieldsOf table.new
         (model.with_all_needed extra (texts names.now)
-        (fields_at (expansions table.old) fields.old.entries))
+        (fields_at table.old fields.old.entries))
         fields.new.entries) }
-    ensures keeps { Keeps (expansions table.old) (expansions table.new) }
+    ensures keeps { Keeps table.old table.new }
 {
     for name in names {
         require(table, name, extra, fields)?;
@@ -348,11 +348,11 @@ fn require(
     fields: &mut BTreeMap<String, NodeField>,
 ) -> Result<(), OutOfMemory>
     requires { AreBelow (length table.old) (numbers_in fields.old.entries) }
-    ensures needed { IfOk result (λ _. AreFieldsOf (expansions table.new)
+    ensures needed { IfOk result (λ _. AreFieldsOf table.new
         (model.with_needed extra (string_bytes name.now)
-        (fields_at (expansions table.old) fields.old.entries))
+        (fields_at table.old fields.old.entries))
         fields.new.entries) }
-    ensures keeps { Keeps (expansions table.old) (expansions table.new) }
+    ensures keeps { Keeps table.old table.new }
 {
     if let Some(field) = fields.get_mut(name) {
         field.needed = true;

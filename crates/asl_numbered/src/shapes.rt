@@ -54,17 +54,16 @@ impl Model for Shapes {
     ghost use Rattle.asl_model.specs.Shape.{Shape as ModelShape};
     ghost use Rattle.asl_numbered.specs.Coding.{coded_shape};
     ghost use Rattle.asl_numbered.specs.Comparison.{AreRight};
-    ghost use Rattle.asl_numbered.specs.Expansion.{expansions};
     ghost use Rattle.asl_numbered.specs.Joins.{AreJoins};
 
     ghost Value = { List ModelShape };
 
     ghost coded = { coded_list coded_shape };
 
-    ghost view = { λ s. expansions s.table };
+    ghost view = { λ s. s.table };
 
-    ghost invariant = { λ s. AreRight (expansions s.table) s.compared.entries
-        × AreJoins (expansions s.table) s.joined.entries };
+    ghost invariant = { λ s. AreRight s.table s.compared.entries
+        × AreJoins s.table s.joined.entries };
 }
 
 impl Shapes {
@@ -81,7 +80,6 @@ impl Shapes {
     }
 
     /// How many shapes there are: the numbers below it are theirs. Takes no memory.
-    #[tactic(auto, using(crate::proofs::Expansions::as_many))]
     pub fn len(&self) -> usize
         ensures counted { result ≡ length self.now }
     {
@@ -104,7 +102,6 @@ impl Shapes {
     }
 
     /// The first level of the shape of that number; `None` where there is none. Takes no memory.
-    #[tactic(auto, using(crate::proofs::Expansions::as_many))]
     pub fn node(&self, number: usize) -> Option<&Node>
         ensures there { IsSome result ↔ number < length self.now }
         ensures level { IfSome result
@@ -125,7 +122,6 @@ impl Shapes {
     }
 
     /// Whether some tree has the shape of that number; `None` where there is none. Takes no memory.
-    #[tactic(auto, using(crate::proofs::Expansions::as_many))]
     pub fn inhabited(&self, number: usize) -> Option<bool>
         ensures there { IsSome result ↔ number < length self.now }
         ensures as_defined { IfSome result (λ b. b ≡ model.inhabited (shape_at self.now number)) }
@@ -135,7 +131,6 @@ impl Shapes {
 
     /// Whether the shape of that number, or one inside it, is of several kinds; `None` where there is none. Takes no
     /// memory.
-    #[tactic(auto, using(crate::proofs::Expansions::as_many))]
     pub fn has_several(&self, number: usize) -> Option<bool>
         ensures there { IsSome result ↔ number < length self.now }
         ensures as_defined { IfSome result (λ b. b ≡ model.has_several (shape_at self.now number)) }
@@ -153,7 +148,6 @@ impl Shapes {
     /// The number of the shape whose first level is the node, and whose parts are the shapes of the node's numbers;
     /// `None` where one of these isn't below the length, or where the parts of a node of several aren't two or more, each
     /// of one kind, in byte order of the names of their types. Refuses only where an allocation was refused.
-    #[tactic(auto, using(crate::proofs::Expansions::as_many))]
     pub fn add_node(&mut self, node: Node) -> Result<Option<usize>, OutOfMemory>
         ensures exactly { IfOk result
             (λ r. IsSome r ↔ RefersBelow (length self.old) node × IsProperNode self.old node) }
@@ -182,7 +176,6 @@ impl Shapes {
     }
 
     /// The shape of that number, a proper one; `None` where there is none. Refuses only where an allocation was refused.
-    #[tactic(auto, using(crate::proofs::Expansions::as_many))]
     pub fn expand(&self, number: usize) -> Result<Option<Shape>, OutOfMemory>
         ensures exactly { IfOk result (λ r. IsSome r ↔ number < length self.now) }
         ensures shape { IfOk result (λ r. IfSome r (λ s. view s ≡ shape_at self.now number)) }
@@ -198,7 +191,6 @@ impl Shapes {
     /// Whether every tree of the first number's shape has the second's; `None` where one of the numbers isn't below the
     /// length. The answer is remembered, as those for the shapes' parts are that were looked at on the way, so that none is
     /// found out twice. Refuses only where an allocation was refused.
-    #[tactic(auto, using(crate::proofs::Expansions::as_many))]
     pub fn sub(&mut self, inner: usize, outer: usize) -> Result<Option<bool>, OutOfMemory>
         ensures there { IfOk result
             (λ r. IsSome r ↔ (inner < length self.old) × (outer < length self.old)) }
@@ -257,7 +249,6 @@ impl Shapes {
     ///
     /// The comparisons on the way are remembered as those of [`Shapes::sub`], so that none is found out twice. Room for a
     /// large tree is asked for as in [`Shapes::example`]. Refuses only where an allocation was refused.
-    #[tactic(auto, using(crate::proofs::Expansions::as_many))]
     pub fn outside(
         &mut self,
         alloc: Global,
@@ -294,7 +285,6 @@ impl Shapes {
     /// The number of the join of the two shapes, as `join` of `asl_shape` makes it: every tree of either has it; `None`
     /// where one of the numbers isn't below the length. The answer is remembered, as those for the shapes' parts are that
     /// were joined on the way, so that none is found out twice. Refuses only where an allocation was refused.
-    #[tactic(auto, using(crate::proofs::Expansions::as_many))]
     pub fn join(&mut self, first: usize, second: usize) -> Result<Option<usize>, OutOfMemory>
         ensures exactly { IfOk result
             (λ r. IsSome r ↔ (first < length self.old) × (second < length self.old)) }

@@ -1,10 +1,9 @@
 // A table of distinct nodes.
-ghost use Rattle.std.specs.Prelude.{◌≡◌, ◌<◌, ◌↔◌, ℕ, List, [], length, map, IsTrue, IsSome, IfSome, IfOk, None, slice_get};
+ghost use Rattle.std.specs.Prelude.{◌≡◌, ◌<◌, ◌↔◌, ℕ, List, [], length, map, IsTrue, IsSome, IfSome, IfOk, None};
 ghost use Rattle.std.specs.List.{list_all, list_any};
-ghost use Rattle.std.specs.Option.{option_copied};
 ghost use Rattle.asl_model.specs.Shape as model;
 ghost use Rattle.asl_model.specs.ShapeOrder as order;
-ghost use Rattle.asl_numbered.specs.Expansion.{expansions, shape_at, shapes_at, fields_at, shape_over, numbers_in, AreBelow, RefersBelow, AreDistinct, IsNumberOf, Keeps};
+ghost use Rattle.asl_numbered.specs.Expansion.{shape_at, shapes_at, fields_at, shape_over, numbers_in, AreBelow, RefersBelow, AreDistinct, IsNumberOf, Keeps};
 ghost use Rattle.asl_numbered.specs.Kinds as places;
 ghost use Rattle.asl_numbered.specs.Kinds.{AscendFrom, IsOfKind, IsProperNode, full, of_every_kind, tidy, tidy_fields, tidy_places};
 ghost use Rattle.asl_numbered.specs.Table.{AreFactsOf, AreFieldsInOrder, IsOrdered};
@@ -17,7 +16,7 @@ use std::alloc::Global;
 use std::collections::BTreeMap;
 use std::marker::Model;
 
-/// The nodes by number, each with what is known of its shape. Contracts see the list of the nodes.
+/// The nodes by number, each with what is known of its shape. Contracts see the list of the shapes that they stand for.
 #[derive(Drop)]
 pub(crate) struct Table {
     nodes: IndexMap<Node, Facts>,
@@ -40,17 +39,16 @@ pub(crate) struct Facts {
 
 impl Model for Table {
     ghost use Rattle.std.specs.Prelude.{List};
-    ghost use Rattle.std.specs.Map.{keys_of};
     ghost use Rattle.std.specs.Coded.{coded_list};
-    ghost use Rattle.asl_numbered.specs.contracts.node.Node.{the_row};
-    ghost use Rattle.asl_numbered.specs.declared.node.Node.{Node as Level};
-    ghost use Rattle.asl_numbered.specs.Table.{IsTable};
+    ghost use Rattle.asl_model.specs.Shape.{Shape as ModelShape};
+    ghost use Rattle.asl_numbered.specs.Coding.{coded_shape};
+    ghost use Rattle.asl_numbered.specs.Table.{IsTable, shapes_in};
 
-    ghost Value = { List Level };
+    ghost Value = { List ModelShape };
 
-    ghost coded = { coded_list the_row.coded };
+    ghost coded = { coded_list coded_shape };
 
-    ghost view = { λ t. keys_of t.nodes.entries };
+    ghost view = { λ t. shapes_in t.nodes.entries };
 
     ghost invariant = { λ t. IsTable t.nodes.entries };
 }
@@ -67,7 +65,7 @@ impl Table {
     }
 
     /// The number of shapes.
-    #[tactic(auto, using(crate::proofs::Tables::keys_counted))]
+    #[tactic(auto, using(crate::proofs::Tables::shapes_length))]
     pub(crate) fn len(&self) -> usize
         ensures { result ≡ length self.now }
     {
@@ -76,7 +74,7 @@ impl Table {
 
     /// No shape stands under two numbers.
     pub(crate) fn are_distinct(&self)
-        ensures distinct { AreDistinct (expansions self.now) }
+        ensures distinct { AreDistinct self.now }
     {
         // The field is named for what is always true of it; nothing is read.
         let _ = &self.nodes;
@@ -84,7 +82,7 @@ impl Table {
 
     /// Each shape is proper.
     pub(crate) fn are_proper(&self)
-        ensures proper { (n : ℕ) → model.IsProperShape (shape_at (expansions self.now) n) }
+        ensures proper { (n : ℕ) → model.IsProperShape (shape_at self.now n) }
     {
         // The field is named for what is always true of it; nothing is read.
         let _ = &self.nodes;
@@ -92,13 +90,12 @@ impl Table {
 
     /// The first level of the shape of that number.
     pub(crate) fn node(&self, number: usize) -> Option<&Node>
-        ensures exactly { option_copied result ≡ slice_get self.now number }
         ensures there { IsSome result ↔ number < length self.now }
         ensures level { IfSome result
-            (λ node. shape_over (expansions self.now) node.now
-            ≡ shape_at (expansions self.now) number) }
+            (λ node. shape_over self.now node.now
+            ≡ shape_at self.now number) }
         ensures earlier { IfSome result (λ node. RefersBelow number node.now) }
-        ensures proper { IfSome result (λ node. IsProperNode (expansions self.now) node.now) }
+        ensures proper { IfSome result (λ node. IsProperNode self.now node.now) }
     {
         match self.nodes.get_index(number) {
             Some(entry) => Some(entry.0),
@@ -109,8 +106,7 @@ impl Table {
     /// Whether the shape of that number is inhabited.
     pub(crate) fn inhabited(&self, number: usize) -> Option<bool>
         ensures there { IsSome result ↔ number < length self.now }
-        ensures as_defined { IfSome result
-            (λ b. b ≡ model.inhabited (shape_at (expansions self.now) number)) }
+        ensures as_defined { IfSome result (λ b. b ≡ model.inhabited (shape_at self.now number)) }
     {
         match self.nodes.get_index(number) {
             Some(entry) => Some(entry.1.inhabited),
@@ -121,7 +117,7 @@ impl Table {
     /// Whether the shape of that number is inhabited; not where there is none.
     #[tactic(auto, using(crate::proofs::Tables::told_inhabited))]
     pub(crate) fn is_inhabited(&self, number: usize) -> bool
-        ensures { result ≡ model.inhabited (shape_at (expansions self.now) number) }
+        ensures { result ≡ model.inhabited (shape_at self.now number) }
     {
         self.inhabited(number).unwrap_or(false)
     }
@@ -129,8 +125,7 @@ impl Table {
     /// Whether the shape of that number, or one inside it, is of several kinds.
     pub(crate) fn has_several(&self, number: usize) -> Option<bool>
         ensures there { IsSome result ↔ number < length self.now }
-        ensures as_defined { IfSome result
-            (λ b. b ≡ model.has_several (shape_at (expansions self.now) number)) }
+        ensures as_defined { IfSome result (λ b. b ≡ model.has_several (shape_at self.now number)) }
     {
         match self.nodes.get_index(number) {
             Some(entry) => Some(entry.1.several),
@@ -141,7 +136,7 @@ impl Table {
     /// The same; not where there is none.
     #[tactic(auto, using(crate::proofs::Tables::told_several))]
     pub(crate) fn is_with_several(&self, number: usize) -> bool
-        ensures { result ≡ model.has_several (shape_at (expansions self.now) number) }
+        ensures { result ≡ model.has_several (shape_at self.now number) }
     {
         self.has_several(number).unwrap_or(false)
     }
@@ -156,7 +151,7 @@ impl Table {
 
     /// Whether every tree has the shape of that number.
     pub(crate) fn takes_all(&self, number: usize) -> bool
-        ensures { result ≡ order.takes_all (shape_at (expansions self.now) number) }
+        ensures { result ≡ order.takes_all (shape_at self.now number) }
     {
         match self.nodes.get_index(number) {
             Some(entry) => entry.1.full && has_every_kind(entry.0),
@@ -166,7 +161,7 @@ impl Table {
 
     /// Whether the shape of that number has every tree of each kind of which it has one.
     pub(crate) fn is_full(&self, number: usize) -> bool
-        ensures { result ≡ full (shape_at (expansions self.now) number) }
+        ensures { result ≡ full (shape_at self.now number) }
     {
         match self.nodes.get_index(number) {
             Some(entry) => entry.1.full,
@@ -176,7 +171,7 @@ impl Table {
 
     /// Whether nothing in the shape of that number is left out where it is joined with itself.
     pub(crate) fn is_tidy(&self, number: usize) -> bool
-        ensures { result ≡ tidy (shape_at (expansions self.now) number) }
+        ensures { result ≡ tidy (shape_at self.now number) }
     {
         match self.nodes.get_index(number) {
             Some(entry) => entry.1.tidy,
@@ -189,11 +184,11 @@ impl Table {
     pub(crate) fn add_node(&mut self, node: Node) -> Result<Option<usize>, OutOfMemory>
         ensures exactly { IfOk result
             (λ r. IsSome r ↔ RefersBelow (length self.old) node
-            × IsProperNode (expansions self.old) node) }
+            × IsProperNode self.old node) }
         ensures number { IfOk result
-            (λ r. IfSome r (IsNumberOf (expansions self.new)
-            (shape_over (expansions self.old) node))) }
-        ensures keeps { Keeps (expansions self.old) (expansions self.new) }
+            (λ r. IfSome r (IsNumberOf self.new
+            (shape_over self.old node))) }
+        ensures keeps { Keeps self.old self.new }
     {
         if refers_below(&node, self.len()) && is_proper(self, &node) {
             Ok(Some(self.put(node)?))
@@ -206,10 +201,9 @@ impl Table {
     #[tactic(auto, using(crate::proofs::Expansions::keeps_unchanged))]
     pub(crate) fn put(&mut self, node: Node) -> Result<usize, OutOfMemory>
         requires refers { RefersBelow (length self.old) node }
-        requires proper { IsProperNode (expansions self.old) node }
-        ensures number { IfOk result
-            (IsNumberOf (expansions self.new) (shape_over (expansions self.old) node)) }
-        ensures keeps { Keeps (expansions self.old) (expansions self.new) }
+        requires proper { IsProperNode self.old node }
+        ensures number { IfOk result (IsNumberOf self.new (shape_over self.old node)) }
+        ensures keeps { Keeps self.old self.new }
     {
         if let Some(number) = self.nodes.get_index_of(&node) {
             return Ok(number);
@@ -260,7 +254,7 @@ fn fields_below(fields: &BTreeMap<String, NodeField>, bound: usize) -> bool
 
 // Whether the node is proper, where it is of several parts.
 fn is_proper(table: &Table, node: &Node) -> bool
-    ensures { IsTrue result ↔ IsProperNode (expansions table.now) node.now }
+    ensures { IsTrue result ↔ IsProperNode table.now node.now }
 {
     match node {
         Node::Any | Node::Never | Node::Null | Node::Bool | Node::Int | Node::Text => true,
@@ -271,7 +265,7 @@ fn is_proper(table: &Table, node: &Node) -> bool
 
 // Whether each of the shapes is of one kind, and these stand in byte order of the names of their types.
 fn ascend(table: &Table, parts: &[usize]) -> bool
-    ensures { IsTrue result ↔ AscendFrom 0 (map (shape_at (expansions table.now)) parts.now) }
+    ensures { IsTrue result ↔ AscendFrom 0 (map (shape_at table.now) parts.now) }
 {
     let mut place = 0;
     for part in parts {
@@ -285,9 +279,8 @@ fn ascend(table: &Table, parts: &[usize]) -> bool
 
 // The place of the only kind of which the shape is, in byte order of the names of types.
 fn kind_at(table: &Table, number: usize) -> Option<usize>
-    ensures one { IfSome result (λ kind. IsOfKind kind (shape_at (expansions table.now) number)) }
-    ensures none { result ≡ None → (kind : ℕ)
-        → IsOfKind kind (shape_at (expansions table.now) number) → ⊥ }
+    ensures one { IfSome result (λ kind. IsOfKind kind (shape_at table.now number)) }
+    ensures none { result ≡ None → (kind : ℕ) → IsOfKind kind (shape_at table.now number) → ⊥ }
 {
     match table.node(number) {
         Some(node) => place_of(node),
@@ -324,8 +317,8 @@ fn has_every_kind(node: &Node) -> bool
 
 // What is known of the shape whose first level is the node.
 fn node_facts(table: &Table, node: &Node) -> Facts
-    requires proper { IsProperNode (expansions table.now) node.now }
-    ensures facts { AreFactsOf (shape_over (expansions table.now) node.now) result }
+    requires proper { IsProperNode table.now node.now }
+    ensures facts { AreFactsOf (shape_over table.now node.now) result }
     ensures ordered { IsOrdered node.now }
 {
     Facts {
@@ -339,8 +332,8 @@ fn node_facts(table: &Table, node: &Node) -> Facts
 
 // Whether the shape whose first level is the node is inhabited.
 fn node_inhabited(table: &Table, node: &Node) -> bool
-    requires proper { IsProperNode (expansions table.now) node.now }
-    ensures inhabited { result ≡ model.inhabited (shape_over (expansions table.now) node.now) }
+    requires proper { IsProperNode table.now node.now }
+    ensures inhabited { result ≡ model.inhabited (shape_over table.now node.now) }
     ensures ordered { IsOrdered node.now }
 {
     match node {
@@ -354,7 +347,7 @@ fn node_inhabited(table: &Table, node: &Node) -> bool
 
 // Whether each of the shapes is inhabited.
 fn all_inhabited(table: &Table, numbers: &[usize]) -> bool
-    ensures { result ≡ model.all_inhabited (shapes_at (expansions table.now) numbers.now) }
+    ensures { result ≡ model.all_inhabited (shapes_at table.now numbers.now) }
 {
     for number in numbers {
         if !table.is_inhabited(*number) {
@@ -366,8 +359,7 @@ fn all_inhabited(table: &Table, numbers: &[usize]) -> bool
 
 // Whether the shape of each needed field is inhabited.
 fn needed_inhabited(table: &Table, fields: &BTreeMap<String, NodeField>) -> bool
-    ensures inhabited { result
-        ≡ model.needed_inhabited (fields_at (expansions table.now) fields.now.entries) }
+    ensures inhabited { result ≡ model.needed_inhabited (fields_at table.now fields.now.entries) }
     ensures ordered { AreFieldsInOrder fields.now.entries }
 {
     for (_, field) in fields.iter() {
@@ -380,8 +372,7 @@ fn needed_inhabited(table: &Table, fields: &BTreeMap<String, NodeField>) -> bool
 
 // Whether one of the shapes is inhabited.
 fn some_inhabited(table: &Table, numbers: &[usize]) -> bool
-    ensures { result ≡ list_any model.inhabited
-        (map (shape_at (expansions table.now)) numbers.now) }
+    ensures { result ≡ list_any model.inhabited (map (shape_at table.now) numbers.now) }
 {
     for number in numbers {
         if table.is_inhabited(*number) {
@@ -393,8 +384,8 @@ fn some_inhabited(table: &Table, numbers: &[usize]) -> bool
 
 // Whether the shape whose first level is the node has every tree of each kind of which it has one.
 fn is_node_full(table: &Table, node: &Node) -> bool
-    requires proper { IsProperNode (expansions table.now) node.now }
-    ensures { result ≡ full (shape_over (expansions table.now) node.now) }
+    requires proper { IsProperNode table.now node.now }
+    ensures { result ≡ full (shape_over table.now node.now) }
 {
     match node {
         Node::Any | Node::Never | Node::Null | Node::Bool | Node::Int | Node::Text => true,
@@ -406,7 +397,7 @@ fn is_node_full(table: &Table, node: &Node) -> bool
 
 // Whether no field is needed, and each may be every tree.
 fn asks_nothing(table: &Table, fields: &BTreeMap<String, NodeField>) -> bool
-    ensures { result ≡ order.asks_nothing (fields_at (expansions table.now) fields.now.entries) }
+    ensures { result ≡ order.asks_nothing (fields_at table.now fields.now.entries) }
 {
     for (_, field) in fields.iter() {
         if field.needed || !table.takes_all(field.shape) {
@@ -418,7 +409,7 @@ fn asks_nothing(table: &Table, fields: &BTreeMap<String, NodeField>) -> bool
 
 // Whether each of the shapes has every tree of each kind of which it has one.
 fn are_full(table: &Table, numbers: &[usize]) -> bool
-    ensures { result ≡ list_all full (map (shape_at (expansions table.now)) numbers.now) }
+    ensures { result ≡ list_all full (map (shape_at table.now) numbers.now) }
 {
     for number in numbers {
         if !table.is_full(*number) {
@@ -430,8 +421,8 @@ fn are_full(table: &Table, numbers: &[usize]) -> bool
 
 // Whether the shape whose first level is the node, or one inside it, is of several kinds.
 fn node_has_several(table: &Table, node: &Node) -> bool
-    requires proper { IsProperNode (expansions table.now) node.now }
-    ensures { result ≡ model.has_several (shape_over (expansions table.now) node.now) }
+    requires proper { IsProperNode table.now node.now }
+    ensures { result ≡ model.has_several (shape_over table.now node.now) }
 {
     match node {
         Node::Any | Node::Never | Node::Null | Node::Bool | Node::Int | Node::Text => false,
@@ -444,7 +435,7 @@ fn node_has_several(table: &Table, node: &Node) -> bool
 
 // Whether one of the shapes, or one inside it, is of several kinds.
 fn some_has_several(table: &Table, numbers: &[usize]) -> bool
-    ensures { result ≡ model.some_has_several (shapes_at (expansions table.now) numbers.now) }
+    ensures { result ≡ model.some_has_several (shapes_at table.now numbers.now) }
 {
     for number in numbers {
         if table.is_with_several(*number) {
@@ -456,8 +447,7 @@ fn some_has_several(table: &Table, numbers: &[usize]) -> bool
 
 // Whether the shape of one of the fields, or one inside it, is of several kinds.
 fn field_has_several(table: &Table, fields: &BTreeMap<String, NodeField>) -> bool
-    ensures { result ≡ model.field_has_several
-        (fields_at (expansions table.now) fields.now.entries) }
+    ensures { result ≡ model.field_has_several (fields_at table.now fields.now.entries) }
 {
     for (_, field) in fields.iter() {
         if table.is_with_several(field.shape) {
@@ -469,8 +459,8 @@ fn field_has_several(table: &Table, fields: &BTreeMap<String, NodeField>) -> boo
 
 // Whether nothing in the shape whose first level is the node is left out where it is joined with itself.
 fn is_node_tidy(table: &Table, node: &Node) -> bool
-    requires proper { IsProperNode (expansions table.now) node.now }
-    ensures { result ≡ tidy (shape_over (expansions table.now) node.now) }
+    requires proper { IsProperNode table.now node.now }
+    ensures { result ≡ tidy (shape_over table.now node.now) }
 {
     match node {
         Node::Any | Node::Never | Node::Null | Node::Bool | Node::Int | Node::Text => true,
@@ -482,7 +472,7 @@ fn is_node_tidy(table: &Table, node: &Node) -> bool
 
 // Whether each of the shapes is inhabited, and nothing in it is left out.
 fn are_places_tidy(table: &Table, numbers: &[usize]) -> bool
-    ensures { result ≡ tidy_places (shapes_at (expansions table.now) numbers.now) }
+    ensures { result ≡ tidy_places (shapes_at table.now numbers.now) }
 {
     for number in numbers {
         if !table.is_inhabited(*number) || !table.is_tidy(*number) {
@@ -494,7 +484,7 @@ fn are_places_tidy(table: &Table, numbers: &[usize]) -> bool
 
 // Whether the shape of each needed field is inhabited, and nothing in the shape of a field is left out.
 fn are_fields_tidy(table: &Table, fields: &BTreeMap<String, NodeField>) -> bool
-    ensures { result ≡ tidy_fields (fields_at (expansions table.now) fields.now.entries) }
+    ensures { result ≡ tidy_fields (fields_at table.now fields.now.entries) }
 {
     for (_, field) in fields.iter() {
         if (field.needed && !table.is_inhabited(field.shape)) || !table.is_tidy(field.shape) {
@@ -506,7 +496,7 @@ fn are_fields_tidy(table: &Table, fields: &BTreeMap<String, NodeField>) -> bool
 
 // Whether nothing in one of the shapes is left out.
 fn are_tidy(table: &Table, numbers: &[usize]) -> bool
-    ensures { result ≡ list_all tidy (map (shape_at (expansions table.now)) numbers.now) }
+    ensures { result ≡ list_all tidy (map (shape_at table.now) numbers.now) }
 {
     for number in numbers {
         if !table.is_tidy(*number) {

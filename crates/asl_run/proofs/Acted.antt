@@ -1,6 +1,6 @@
 -- From a plan made where a state's execution was found to what is done at its place.
 use Rattle.std.proofs.Common.{◌≡◌, refl, sym, ap, ◌∙◌, subst, ℕ, List, Option, Some, None, IfSome, Result, Ok, Err, IfOk}
-use Rattle.asl_states.specs.declared.machine.Machine.{Machine}
+use Rattle.asl_machine_table.specs.declared.machine.Machine.{Machine}
 use Rattle.asl_model.specs.Machine.{State}
 use Rattle.asl_model.specs.Run as model
 use Rattle.asl_model.proofs.RunOptions.{some_inj}

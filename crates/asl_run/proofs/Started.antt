@@ -1,8 +1,8 @@
 -- A run's start, in the machine's table.
 use Rattle.std.proofs.Common.{◌≡◌, refl, sym, ap, ◌∙◌, subst, ℕ, List, [], ◌∷◌, bytes_eq, position, slice_get, Option, Some, None, option_map}
 use Rattle.std.specs.Option.{unwrap_or}
-use Rattle.asl_states.specs.Table.{Shows, table_view}
-use Rattle.asl_states.specs.declared.machine.Machine.{Machine}
+use Rattle.asl_machine_table.specs.Table.{Shows, table_view}
+use Rattle.asl_machine_table.specs.declared.machine.Machine.{Machine}
 use Rattle.asl_model.specs.Machine.{Scope, ScopeOf, NoStates, AndState, start_of}
 use Rattle.asl_model.specs.Numbering.{Placement, Table, table_of, own_scope, HasNamed, IsWellNamed}
 use Rattle.asl_model.specs.Run as model

@@ -1,7 +1,7 @@
 -- The step at a node, as one of the run: along the place from the machine's own on.
 use Rattle.std.proofs.Common.{◌≡◌, refl, sym, ap, ◌∙◌, subst, arith, ℕ, List, [], ◌∷◌, slice_get, Option, Some, None, option_map, option_and_then, Result, Ok, Err, IfOk, IfErr, Vec, Global}
 use Rattle.std.specs.Option.{unwrap_or}
-use Rattle.asl_states.specs.declared.machine.Machine.{Machine}
+use Rattle.asl_machine_table.specs.declared.machine.Machine.{Machine}
 use Rattle.asl_model.specs.Run as model
 use Rattle.asl_model.specs.Tree.{Null}
 use Rattle.asl_model.proofs.RunOptions.{some_inj, none_some}

@@ -1,6 +1,6 @@
 -- A step of a child of a Split, as one of the Split.
 use Rattle.std.proofs.Common.{◌≡◌, refl, sym, ap, ◌∙◌, ℕ, zero, suc, List, ◌∷◌, Option, Some, None, option_map, Result, Ok, Err, Vec, Global}
-use Rattle.asl_states.specs.declared.machine.Machine.{Machine}
+use Rattle.asl_machine_table.specs.declared.machine.Machine.{Machine}
 use Rattle.asl_model.specs.Machine.{Scope}
 use Rattle.asl_model.specs.Run.{Activity, Split, Activities, NoActivities, AndActivity, Action, Step, child_at, set_child, within, scope_below, step_at, activity_at}
 use Rattle.asl_model.specs.Tree.{Tree}

@@ -4,9 +4,9 @@ use Rattle.std.specs.Option.{unwrap_or}
 use Rattle.std.proofs.lemmas.Option.{get_or_from_slice_get, slice_get-map, slice_get_within}
 use Rattle.asl_states.specs.Machine.{state_view}
 use Rattle.asl_states.specs.Numbered.{AreNumbered}
-use Rattle.asl_states.specs.Table.{Shows, states_in, table_view}
+use Rattle.asl_machine_table.specs.Table.{Shows, states_in, table_view}
 use Rattle.asl_states.specs.declared.states.State as code
-use Rattle.asl_states.specs.declared.machine.Machine.{Machine}
+use Rattle.asl_machine_table.specs.declared.machine.Machine.{Machine}
 use Rattle.asl_model.specs.Machine.{Scope, State, state_named}
 use Rattle.asl_model.specs.Numbering.{HasNamed, IsScopeOf, Table, outline, table_of}
 use Rattle.asl_model.specs.Run as model

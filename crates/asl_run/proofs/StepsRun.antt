@@ -1,8 +1,8 @@
 -- A step leaves a run of the same machine.
 use Rattle.std.proofs.Common.{◌≡◌, ◌↔◌, refl, sym, ap, subst, ℕ, List, [], ◌∷◌, map, Option, Some, None, option_map, option_and_then, Result, Ok, Err, Vec, Global}
 use Rattle.std.specs.Option.{IsSome}
-use Rattle.asl_states.specs.Table.{Shows}
-use Rattle.asl_states.specs.declared.machine.Machine.{Machine}
+use Rattle.asl_machine_table.specs.Table.{Shows}
+use Rattle.asl_machine_table.specs.declared.machine.Machine.{Machine}
 use Rattle.asl_model.specs.Machine.{Scope}
 use Rattle.asl_model.specs.Numbering.{own_scope}
 use Rattle.asl_model.specs.Run as model

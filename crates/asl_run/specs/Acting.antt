@@ -2,8 +2,8 @@
 use Rattle.std.specs.Prelude.{◌≡◌, ℕ, List, map, Option, Some, None, IfSome, option_map, slice_get}
 use Rattle.std.specs.Option.{unwrap_or}
 use Rattle.asl_states.specs.Machine.{kind_view, settings_view, state_view}
-use Rattle.asl_states.specs.Table.{states_in, table_view}
-use Rattle.asl_states.specs.declared.machine.Machine.{Machine}
+use Rattle.asl_machine_table.specs.Table.{states_in, table_view}
+use Rattle.asl_machine_table.specs.declared.machine.Machine.{Machine}
 use Rattle.asl_states.specs.declared.states.State as code
 use Rattle.asl_states.specs.declared.target.Target.{Target}
 use Rattle.asl_model.specs.Machine.{State, Settings}

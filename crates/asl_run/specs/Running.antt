@@ -1,5 +1,5 @@
 -- Runs of the definitions' machines.
-use Rattle.asl_states.specs.Table.{Shows, table_view}
+use Rattle.asl_machine_table.specs.Table.{Shows, table_view}
 use Rattle.asl_model.specs.Machine.{Scope}
 use Rattle.asl_model.specs.Run as model
 use Rattle.asl_run.specs.Nodes.{shown_at}

@@ -1,7 +1,7 @@
 //! Driving a run: its places take turns, in an order, and a source answers its tasks.
 
 ghost use Rattle.std.specs.Prelude.{◌≡◌, ℕ, List, [], map, Option, None, IfOk, IfErr, OnOk};
-ghost use Rattle.asl_states.specs.Table.{Shows, table_view};
+ghost use Rattle.asl_machine_table.specs.Table.{Shows, table_view};
 ghost use Rattle.asl_model.specs.Machine.{Scope};
 ghost use Rattle.asl_model.specs.Run as model;
 ghost use Rattle.asl_model.specs.Tree as trees;
@@ -20,7 +20,7 @@ use crate::nodes::Nodes;
 use crate::orders::Order;
 use crate::running::Run;
 use crate::waiting::waiting_at;
-use asl_states::Machine;
+use asl_machine_table::Machine;
 use asl_tree::OutOfMemory;
 
 /// How many entries a step makes at most.

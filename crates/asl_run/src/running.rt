@@ -2,7 +2,7 @@
 
 ghost use Rattle.std.specs.Prelude.{◌≡◌, ◌≢◌, ◌↔◌, [], List, map, option_map, IfErr, IfOk, None, ℕ};
 ghost use Rattle.std.specs.Option.{IsSome, unwrap_or};
-ghost use Rattle.asl_states.specs.Table.{Shows, table_view};
+ghost use Rattle.asl_machine_table.specs.Table.{Shows, table_view};
 ghost use Rattle.asl_model.specs.Machine.{Scope, start_of};
 ghost use Rattle.asl_model.specs.Run as model;
 ghost use Rattle.asl_run.specs.Enabling.{found_view, open_in};
@@ -19,7 +19,7 @@ use crate::entries::{Answer, Entry, Event, Outcome, Place, Want};
 use crate::nodes::Node;
 use crate::standing::Standing;
 use crate::stepping::{Happening, StepRefusal};
-use asl_states::Machine;
+use asl_machine_table::Machine;
 use asl_tree::{OutOfMemory, Tree};
 use std::alloc::Global;
 

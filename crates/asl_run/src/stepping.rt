@@ -15,7 +15,7 @@ use crate::entries::{Answer, Entry, Want};
 use crate::nodes::{Node, NodeNumber, Nodes};
 use crate::planning::Plan;
 use crate::standing::Standing;
-use asl_states::Machine;
+use asl_machine_table::Machine;
 use asl_tree::OutOfMemory;
 use std::alloc::Global;
 

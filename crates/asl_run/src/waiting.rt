@@ -1,14 +1,14 @@
 //! The task that waits at a place of a run.
 
 ghost use Rattle.std.specs.Prelude.{IfSome, IfNone};
-ghost use Rattle.asl_states.specs.Table.{Shows, table_view};
+ghost use Rattle.asl_machine_table.specs.Table.{Shows, table_view};
 ghost use Rattle.asl_model.specs.Machine.{Scope};
 ghost use Rattle.asl_run.specs.Nodes.{shown_at};
 ghost use Rattle.asl_run.specs.Standing.{StandsIn};
 ghost use Rattle.asl_run.specs.Waiting.{NoneWaitsAt, WaitsAt};
 
 use crate::nodes::{Node, Nodes};
-use asl_states::Machine;
+use asl_machine_table::Machine;
 use asl_tree::Tree;
 
 /// A task that waits: the number and the name of its state, and the payload that it was asked with.

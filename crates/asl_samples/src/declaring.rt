@@ -4,13 +4,14 @@ ghost use Rattle.asl_model.specs.Certificate.{under};
 ghost use Rattle.asl_model.specs.Names.{StateName};
 ghost use Rattle.asl_model.specs.Shape.{Any};
 ghost use Rattle.asl_records.specs.View.{declared_view, task_view, tasks_view};
-ghost use Rattle.asl_states.specs.Table.{table_view};
+ghost use Rattle.asl_machine_table.specs.Table.{table_view};
 ghost use Rattle.asl_samples.specs.Tasks as model;
 ghost use Rattle.asl_samples.specs.Tasks.{AreTasksOf};
 
+use asl_machine_table::Machine;
 use asl_records::{Declared, TaskShapes};
 use asl_shape::Shape;
-use asl_states::{Kind, Machine};
+use asl_states::Kind;
 use asl_tree::OutOfMemory;
 use std::alloc::Global;
 use std::collections::BTreeMap;

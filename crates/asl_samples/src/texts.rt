@@ -1,9 +1,9 @@
 //! Declared shapes and shapes as JSON texts for people.
 
 use crate::declaring::declare;
+use asl_machine_table::Machine;
 use asl_records::write_declared;
 use asl_shape::{Shape, write};
-use asl_states::Machine;
 use asl_tree::{OutOfMemory, Tree, to_value};
 use std::alloc::Global;
 

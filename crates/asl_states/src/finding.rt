@@ -10,8 +10,9 @@ use crate::states::{Catcher, ChoiceRule, Kind, Settings, State};
 use crate::target::Target;
 use indexmap::IndexSet;
 
-/// Finds the numbers of the states that the fields of states name.
-pub(crate) fn find_all(states: &mut Vec<State>, names: &IndexSet<String>)
+/// Finds the numbers of the states that the fields of the states name: that of a name is its position among the names, and
+/// stays 0 where it isn't there. It takes no memory.
+pub fn find_all(states: &mut Vec<State>, names: &IndexSet<String>)
     ensures same { map state_view states.new.items ≡ map state_view states.old.items }
     ensures numbered { All (AreNumbered (map string_bytes names.now.keys)) states.new.items }
 {

@@ -1,13 +1,11 @@
-//! Machines: the types of states, and the table of a machine's states (States Language, "Structure of a State Machine",
-//! "State Types").
+//! The states of machines, and the numbers of the states that their fields name (States Language, "State Types").
 #![tactic(auto)]
 
 mod finding;
 mod kinds;
-mod machine;
 mod states;
 mod target;
 
-pub use machine::Machine;
+pub use finding::find_all;
 pub use states::{Catcher, ChoiceRule, Delay, Kind, Retrier, Scope, Settings, State};
 pub use target::Target;

@@ -16,7 +16,7 @@ use Rattle.asl_model.specs.Texts.{Which, DefinitionText, DeclaredText, Certifica
 use Rattle.asl_model.specs.Texts.{TextFault, NotJson, NotWhole, NoMemory, IsNoJson, ReadsAsMachine, ReadsAsDeclared}
 use Rattle.asl_model.specs.TracePrinted.{trace_text}
 use Rattle.asl_model.specs.Tree.{Tree}
-use Rattle.asl_states.specs.Table.{Shows}
+use Rattle.asl_machine_table.specs.Table.{Shows}
 use Rattle.asl_records.specs.View.{declared_view}
 use Rattle.asl_run.specs.Driving.{answers_among}
 use Rattle.asl_run.specs.Entries.{answer_view}

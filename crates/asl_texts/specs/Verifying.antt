@@ -4,8 +4,8 @@ use Rattle.std.specs.Option.{unwrap_or}
 use Rattle.asl_model.specs.Machine.{Scope}
 use Rattle.asl_model.specs.Certificate.{Declared}
 use Rattle.asl_model.specs.Texts.{Which, DefinitionText, DeclaredText, CertificateText, TextFault, NotJson, BadRecord, NoMemory, IsNoJson, IsDefinitionFault, IsDeclaredFault, IsCertificateFault, IsRefusal, ReadsAsMachine, ReadsAsDeclared}
-use Rattle.asl_states.specs.Table.{Shows}
-use Rattle.asl_states.specs.declared.machine.Machine.{Machine}
+use Rattle.asl_machine_table.specs.Table.{Shows}
+use Rattle.asl_machine_table.specs.declared.machine.Machine.{Machine}
 use Rattle.asl_records.specs.View.{complaint_view}
 use Rattle.asl_records.specs.declared.refusals.ReadFault.{ReadFault}
 use Rattle.asl_records.specs.declared.refusals.ReadFault.TheVariants as kept

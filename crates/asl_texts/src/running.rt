@@ -1,7 +1,7 @@
 //! From the texts of a run to its trace.
 
 ghost use Rattle.std.specs.Prelude.{◌≡◌, map, option_map, IsTrue, IfOk, IfErr, OnOk};
-ghost use Rattle.asl_states.specs.Table.{Shows, table_view};
+ghost use Rattle.asl_machine_table.specs.Table.{Shows, table_view};
 ghost use Rattle.asl_model.specs.Machine.{Scope};
 ghost use Rattle.asl_records.specs.View.{declared_view};
 ghost use Rattle.asl_run.specs.Driving.{policy_of};

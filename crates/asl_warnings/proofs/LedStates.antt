@@ -6,8 +6,8 @@ use Rattle.std.proofs.lemmas.Option.{slice_get_within, slice_get-get_or}
 use Rattle.std.proofs.lemmas.List.Elements.{Contains-push}
 use Rattle.asl_model.proofs.RunOptions.{some_inj}
 use Rattle.asl_model.specs.Numbering.{Placement}
-use Rattle.asl_states.specs.Table.{states_in, table_view}
-use Rattle.asl_states.specs.declared.machine.Machine.{Machine}
+use Rattle.asl_machine_table.specs.Table.{states_in, table_view}
+use Rattle.asl_machine_table.specs.declared.machine.Machine.{Machine}
 use Rattle.asl_states.specs.declared.states.State.{State}
 use Rattle.asl_warnings.specs.Adding.{Adds, is_marked}
 use Rattle.asl_warnings.specs.Led.{IsLed, is_start, is_named, named_by, named_in, start_of}

@@ -1,8 +1,8 @@
 -- The states that a machine's graph leads to.
 use Rattle.std.specs.Prelude.{◌≡◌, ◌++◌, ℕ, List, [], ◌∷◌, map, option_map, option_to_list, slice_get, Option, Some, None, Contains}
 use Rattle.asl_model.specs.Numbering.{Placement}
-use Rattle.asl_states.specs.Table.{states_in, table_view}
-use Rattle.asl_states.specs.declared.machine.Machine.{Machine}
+use Rattle.asl_machine_table.specs.Table.{states_in, table_view}
+use Rattle.asl_machine_table.specs.declared.machine.Machine.{Machine}
 use Rattle.asl_states.specs.declared.states.State.{State}
 use Rattle.asl_states.specs.declared.states.Settings.{Settings}
 use Rattle.asl_states.specs.declared.states.Catcher.{Catcher}

@@ -1,8 +1,8 @@
 -- Names told by marks on the states to which a way leads. No public clause cites this module.
 use Rattle.std.specs.Prelude.{◌≡◌, ◌<◌, ◌↔◌, ℕ, List, [], length, Bool, true, Option, Some, None, slice_get}
 use Rattle.asl_model.specs.Names.{StateName}
-use Rattle.asl_states.specs.Table.{states_in, table_view}
-use Rattle.asl_states.specs.declared.machine.Machine.{Machine}
+use Rattle.asl_machine_table.specs.Table.{states_in, table_view}
+use Rattle.asl_machine_table.specs.declared.machine.Machine.{Machine}
 use Rattle.asl_states.specs.declared.states.State.{State}
 use Rattle.asl_warnings.specs.Adding.{is_marked}
 use Rattle.asl_warnings.specs.Led.{IsLed}

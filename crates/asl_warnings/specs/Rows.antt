@@ -1,7 +1,7 @@
 -- The states of a machine, by number. No public clause cites this module.
 use Rattle.std.specs.Prelude.{◌≡◌, ◌⊎◌, ℕ, Some, None, slice_get}
-use Rattle.asl_states.specs.Table.{states_in, table_view}
-use Rattle.asl_states.specs.declared.machine.Machine.{Machine}
+use Rattle.asl_machine_table.specs.Table.{states_in, table_view}
+use Rattle.asl_machine_table.specs.declared.machine.Machine.{Machine}
 use Rattle.asl_warnings.specs.declared.rows.Row.{Row}
 
 -- the row is that of the state of that number

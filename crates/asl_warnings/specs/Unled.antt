@@ -1,8 +1,8 @@
 -- Names of states to which no way leads.
 use Rattle.std.specs.Prelude.{◌≡◌, ◌<◌, ℕ, List, length, Some, slice_get, Contains}
 use Rattle.asl_model.specs.Names.{StateName}
-use Rattle.asl_states.specs.Table.{states_in, table_view}
-use Rattle.asl_states.specs.declared.machine.Machine.{Machine}
+use Rattle.asl_machine_table.specs.Table.{states_in, table_view}
+use Rattle.asl_machine_table.specs.declared.machine.Machine.{Machine}
 use Rattle.asl_warnings.specs.Led.{IsLed}
 
 -- the state of that number has that name, and no way leads to it

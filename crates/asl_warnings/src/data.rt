@@ -11,8 +11,8 @@ use crate::noting::Listed;
 use crate::reason::Reason;
 use crate::rows::{Row, row_of};
 use asl_diagnostics::Warning;
+use asl_machine_table::Machine;
 use asl_records::NumberedCertificate;
-use asl_states::Machine;
 use asl_tree::OutOfMemory;
 use std::alloc::Global;
 

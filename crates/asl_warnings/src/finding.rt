@@ -13,8 +13,8 @@ use crate::notice::Notice;
 use crate::noting::{note_catchers, note_retriers, note_unled};
 use crate::raising::raised_at;
 use crate::rows::{Row, row_of};
+use asl_machine_table::Machine;
 use asl_records::NumberedCertificate;
-use asl_states::Machine;
 use asl_tree::OutOfMemory;
 use std::alloc::Global;
 

@@ -1,12 +1,12 @@
 //! Which states a machine's graph leads to.
 
 ghost use Rattle.std.specs.Prelude.{◌≡◌, ◌<◌, ◌↔◌, ℕ, IfOk, OnOk, length, option_map, option_to_list, slice_get, true};
-ghost use Rattle.asl_states.specs.Table.{states_in, table_view};
+ghost use Rattle.asl_machine_table.specs.Table.{states_in, table_view};
 ghost use Rattle.asl_warnings.specs.Adding.{Adds, is_marked};
 ghost use Rattle.asl_warnings.specs.Led.{IsLed, named_by, start_of};
 
 use crate::marks::Marks;
-use asl_states::Machine;
+use asl_machine_table::Machine;
 use asl_tree::OutOfMemory;
 use std::alloc::Global;
 

@@ -3,7 +3,8 @@
 ghost use Rattle.std.specs.Prelude.{◌≡◌, IfOk};
 ghost use Rattle.asl_warnings.specs.Taken.{is_reserved, may_raise, RaisesAll};
 
-use asl_states::{Kind, Machine, State};
+use asl_machine_table::Machine;
+use asl_states::{Kind, State};
 use asl_tree::OutOfMemory;
 use std::alloc::Global;
 use std::collections::BTreeSet;

@@ -3,7 +3,8 @@
 ghost use Rattle.std.specs.Prelude.{IfNone, IfSome};
 ghost use Rattle.asl_warnings.specs.Rows.{HasNoRow, IsRowOf};
 
-use asl_states::{Machine, State};
+use asl_machine_table::Machine;
+use asl_states::State;
 
 /// A state with its number and its name.
 #[derive(Clone, Copy)]

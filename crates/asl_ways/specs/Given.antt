@@ -6,8 +6,8 @@ use Rattle.asl_model.specs.Names.{StateName}
 use Rattle.asl_model.specs.Numbering.{Table}
 use Rattle.asl_model.specs.Shape.{Shape}
 use Rattle.asl_states.specs.Machine.{state_view}
-use Rattle.asl_states.specs.Table.{table_view}
-use Rattle.asl_states.specs.declared.machine.Machine.{Machine}
+use Rattle.asl_machine_table.specs.Table.{table_view}
+use Rattle.asl_machine_table.specs.declared.machine.Machine.{Machine}
 use Rattle.asl_records.specs.Numbered.{numbered_entries, numbered_view, numbers_view}
 use Rattle.asl_records.specs.View.{declared_view}
 use Rattle.asl_records.specs.declared.records.Declared.{Declared as DeclaredShapes}

@@ -9,9 +9,9 @@ ghost use Rattle.asl_ways.specs.Given.{given_in, given_of};
 
 use crate::exits::Exit;
 use crate::leaving::{Walker, push_if_any};
+use asl_machine_table::Machine;
 use asl_numbered::Shapes;
 use asl_records::{Declared, NumberedCertificate};
-use asl_states::Machine;
 use asl_tree::OutOfMemory;
 use std::alloc::Global;
 

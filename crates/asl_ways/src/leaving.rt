@@ -4,7 +4,7 @@ ghost use Rattle.std.specs.Prelude.{◌≡◌, ◌<◌, ◌++◌, ℕ, List, len
 ghost use Rattle.asl_model.specs.Certificate.{gives_of, under};
 ghost use Rattle.asl_model.specs.Shape as model;
 ghost use Rattle.asl_numbered.specs.Expansion.{shape_at, Keeps};
-ghost use Rattle.asl_states.specs.Table.{table_view};
+ghost use Rattle.asl_machine_table.specs.Table.{table_view};
 ghost use Rattle.asl_records.specs.Numbered.{numbers_view, AreEntriesBelow, AreNumbersBelow};
 ghost use Rattle.asl_records.specs.View.{declared_view};
 ghost use Rattle.asl_state_edges.specs.View.{edge_view, step_view, steps_of, AreStepsBelow, IsStepBelow};
@@ -15,11 +15,12 @@ ghost use Rattle.asl_ways.specs.Given.{given_in, row_at, row_view};
 
 use crate::arriving::{Arrival, Origin};
 use crate::exits::Passed;
+use asl_machine_table::Machine;
 use asl_numbered::Shapes;
 use asl_records::{Declared, StateNumbers};
 use asl_shape::Shape;
 use asl_state_edges::{Destination, Edge, Entry, Step, edges_of};
-use asl_states::{Machine, State};
+use asl_states::State;
 use asl_tree::OutOfMemory;
 use std::alloc::Global;
 use std::collections::BTreeMap;

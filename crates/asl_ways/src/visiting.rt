@@ -11,9 +11,9 @@ ghost use Rattle.asl_ways.specs.Visits.{AreAll, AreVisits, AreVisitsBelow};
 use crate::arriving::Arrival;
 use crate::leaving::Walker;
 use crate::search::Search;
+use asl_machine_table::Machine;
 use asl_numbered::Shapes;
 use asl_records::{Declared, NumberedCertificate};
-use asl_states::Machine;
 use asl_tree::OutOfMemory;
 use std::alloc::Global;
 

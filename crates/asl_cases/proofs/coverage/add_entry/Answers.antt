@@ -1,7 +1,7 @@
 use Rattle.std.proofs.Common.{◌<◌, ◌≤◌, length, refl, sym, arith}
 use Rattle.std.proofs.lemmas.Option.{slice_get_read}
 use Rattle.asl_states.specs.Machine.{state_view}
-use Rattle.asl_states.specs.Table.{table_view}
+use Rattle.asl_machine_table.specs.Table.{table_view}
 use Rattle.asl_run.specs.Entries.{entry_view}
 use Rattle.asl_cases.specs.Coverage.{is_taken}
 use Rattle.asl_cases.proofs.Recorded.{kept_absent, kept_unnamed, kept_unnoted, kept_untaken, noted_more}

@@ -1,7 +1,7 @@
 use Rattle.std.proofs.Common.{◌≡◌, ◌<◌, ◌+◌, length, refl, sym, ap, arith}
 use Rattle.std.proofs.lemmas.Option.{slice_get_read}
 use Rattle.asl_states.specs.Machine.{state_view}
-use Rattle.asl_states.specs.Table.{table_view}
+use Rattle.asl_machine_table.specs.Table.{table_view}
 use Rattle.asl_cases.specs.Coverage.{is_taken, lacking_of}
 use Rattle.asl_cases.proofs.Lacks.{lacking_over, lacking_step}
 use Rattle.asl_cases.proofs.Numbered.{none_within}

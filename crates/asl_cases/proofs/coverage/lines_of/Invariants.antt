@@ -1,5 +1,5 @@
 use Rattle.std.proofs.Common.{◌≡◌, ◌+◌, drop, length}
-use Rattle.asl_states.specs.Table.{table_view}
+use Rattle.asl_machine_table.specs.Table.{table_view}
 use Rattle.asl_run.specs.Driving.{Told}
 use Rattle.asl_cases.specs.Coverage.{AreFlagsOf, is_taken, lacking}
 use Rattle.asl_cases.proofs.Lacks.{lacking_from}

@@ -1,7 +1,7 @@
 use Rattle.std.proofs.Common.{◌≡◌, ◌<◌, ◌+◌, ◌++◌, ◌∷◌, [], length, sym, ap, ◌∙◌, subst, arith}
 use Rattle.std.proofs.lemmas.List.{length_push}
 use Rattle.asl_states.specs.Machine.{state_view}
-use Rattle.asl_states.specs.Table.{table_view}
+use Rattle.asl_machine_table.specs.Table.{table_view}
 use Rattle.asl_cases.proofs.Numbered.{none_within}
 use Rattle.asl_cases.proofs.Recorded.{NoneTaken, none_taken_more}
 use Rattle.asl_cases.proofs.coverage.nothing_of.Goals as goal

@@ -1,5 +1,5 @@
 use Rattle.std.proofs.Common.{◌≡◌, length}
-use Rattle.asl_states.specs.Table.{table_view}
+use Rattle.asl_machine_table.specs.Table.{table_view}
 use Rattle.asl_cases.proofs.Recorded.{NoneTaken}
 use Rattle.asl_cases.proofs.coverage.nothing_of.Given as goal
 

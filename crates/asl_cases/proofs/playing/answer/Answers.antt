@@ -1,6 +1,6 @@
 use Rattle.std.proofs.Common.{◌≡◌, ◌∙◌, Bor, List, Some, slice_get, ap, sym, map, option_map, subst}
 use Rattle.std.proofs.lemmas.Result.{IfOk-weaker}
-use Rattle.asl_states.specs.Table.{Shows, table_view}
+use Rattle.asl_machine_table.specs.Table.{Shows, table_view}
 use Rattle.asl_model.specs.Machine.{Scope}
 use Rattle.asl_records.specs.View.{declared_view}
 use Rattle.asl_records.specs.declared.records.Declared.{Declared}

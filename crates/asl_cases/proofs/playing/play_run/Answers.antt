@@ -1,5 +1,5 @@
 use Rattle.std.proofs.Common.{Bor, List, ap, sym, map, option_map, subst, arith}
-use Rattle.asl_states.specs.Table.{Shows}
+use Rattle.asl_machine_table.specs.Table.{Shows}
 use Rattle.asl_model.specs.Machine.{Scope}
 use Rattle.asl_model.specs.Run.{outcome_of}
 use Rattle.asl_records.specs.View.{declared_view}

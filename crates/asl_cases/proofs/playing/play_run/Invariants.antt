@@ -1,5 +1,5 @@
 use Rattle.std.proofs.Common.{◌≡◌, Bor, None, map, option_map}
-use Rattle.asl_states.specs.Table.{Shows}
+use Rattle.asl_machine_table.specs.Table.{Shows}
 use Rattle.asl_model.specs.Machine.{Scope}
 use Rattle.asl_model.specs.Run.{outcome_of}
 use Rattle.asl_records.specs.View.{declared_view}

@@ -1,6 +1,6 @@
 use Rattle.std.proofs.Common.{IfOk, subst}
 use Rattle.asl_model.specs.Certificate.{Certificate}
-use Rattle.asl_states.specs.Table.{table_view}
+use Rattle.asl_machine_table.specs.Table.{table_view}
 use Rattle.asl_records.specs.View.{declared_view}
 use Rattle.asl_check.specs.Told.{listed, TellsFirst}
 use Rattle.asl_check.specs.View.{verdict_view}

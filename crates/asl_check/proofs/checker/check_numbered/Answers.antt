@@ -3,7 +3,7 @@ use Rattle.asl_model.specs.Certificate.{Certificate}
 use Rattle.asl_model.specs.Machine.{Scope}
 use Rattle.asl_model.specs.Verdict.{IsRight}
 use Rattle.asl_numbered.specs.Laws.{keeps_trans}
-use Rattle.asl_states.specs.Table.{Shows, table_view}
+use Rattle.asl_machine_table.specs.Table.{Shows, table_view}
 use Rattle.asl_records.proofs.Kept.{certificate_shown, certificate_within}
 use Rattle.asl_records.specs.View.{declared_view}
 use Rattle.asl_check.specs.Told.{listed, TellsFirst}

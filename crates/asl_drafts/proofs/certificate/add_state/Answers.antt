@@ -1,5 +1,5 @@
 use Rattle.asl_states.specs.Machine.{state_view}
-use Rattle.asl_states.specs.Table.{table_view}
+use Rattle.asl_machine_table.specs.Table.{table_view}
 use Rattle.asl_drafts.proofs.Certified.{certified-more, certified-nameless}
 use Rattle.asl_drafts.proofs.EntryViews.{state_found}
 use Rattle.asl_drafts.proofs.certificate.add_state.Goals as goal

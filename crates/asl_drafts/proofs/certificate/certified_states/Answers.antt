@@ -1,5 +1,5 @@
 use Rattle.std.proofs.Common.{◌-◌, arith}
-use Rattle.asl_states.specs.Table.{table_view}
+use Rattle.asl_machine_table.specs.Table.{table_view}
 use Rattle.asl_drafts.proofs.Certified.{certified-none}
 use Rattle.asl_drafts.proofs.certificate.certified_states.Goals as goal
 

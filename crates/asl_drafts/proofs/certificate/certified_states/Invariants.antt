@@ -1,5 +1,5 @@
 use Rattle.std.proofs.Common.{◌-◌}
-use Rattle.asl_states.specs.Table.{table_view}
+use Rattle.asl_machine_table.specs.Table.{table_view}
 use Rattle.asl_drafts.specs.Certified.{AreCertified}
 use Rattle.asl_drafts.proofs.certificate.certified_states.Given as goal
 

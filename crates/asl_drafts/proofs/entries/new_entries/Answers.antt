@@ -1,7 +1,7 @@
 use Rattle.asl_model.specs.Machine.{State, kind_of}
 use Rattle.asl_draft_laws.specs.Drafts.{children_in}
 use Rattle.asl_states.specs.Machine.{state_view}
-use Rattle.asl_states.specs.Table.{table_view}
+use Rattle.asl_machine_table.specs.Table.{table_view}
 use Rattle.asl_drafts.specs.Entries.{filled_with, growths_in}
 use Rattle.asl_drafts.proofs.EntryViews.{entries-next, state_found}
 use Rattle.asl_drafts.proofs.entries.new_entries.Goals as goal

@@ -2,7 +2,7 @@ use Rattle.std.proofs.Common.{◌≡◌, ◌-◌, ◌+◌, ◌++◌, ◌∷◌, 
 use Rattle.std.proofs.lemmas.List.{append-nil, map-append}
 use Rattle.std.specs.BTreeMap.{insert_entry}
 use Rattle.asl_model.proofs.RunOptions.{none_some, some_inj}
-use Rattle.asl_states.specs.Table.{table_view}
+use Rattle.asl_machine_table.specs.Table.{table_view}
 use Rattle.asl_drafts.specs.Order.{IsPlaced, entry_seen, row_seen}
 use Rattle.asl_drafts.proofs.Ordered.{Entry, all-ordered, by_name, placed-next, placed-none}
 use Rattle.asl_drafts.proofs.order.order_of.Goals as goal

@@ -1,5 +1,5 @@
 use Rattle.std.proofs.Common.{◌≡◌, ◌-◌, ℕ, List, ◌++◌, map, Bor}
-use Rattle.asl_states.specs.Table.{table_view}
+use Rattle.asl_machine_table.specs.Table.{table_view}
 use Rattle.asl_drafts.specs.Order.{IsPlaced, entry_seen, row_seen}
 use Rattle.asl_drafts.proofs.order.order_of.Given as goal
 

@@ -1,7 +1,7 @@
 use Rattle.std.proofs.Common.{ℕ, get_or}
 use Rattle.std.proofs.lemmas.List.{get_or_default}
 use Rattle.asl_records.specs.View.{declared_view}
-use Rattle.asl_states.specs.Table.{table_view}
+use Rattle.asl_machine_table.specs.Table.{table_view}
 use Rattle.asl_infer.proofs.TaskNames.{one-less}
 use Rattle.asl_infer.proofs.declarations.first_undeclared.Goals as goal
 

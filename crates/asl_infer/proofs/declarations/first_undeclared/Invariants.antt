@@ -1,5 +1,5 @@
 use Rattle.asl_records.specs.View.{declared_view}
-use Rattle.asl_states.specs.Table.{table_view}
+use Rattle.asl_machine_table.specs.Table.{table_view}
 use Rattle.asl_infer.proofs.TaskNames.{UndeclaredLeft}
 use Rattle.asl_infer.proofs.declarations.first_undeclared.Given as goal
 

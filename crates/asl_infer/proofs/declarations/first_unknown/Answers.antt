@@ -1,7 +1,7 @@
 use Rattle.std.proofs.Common.{map, String, Global, sym, subst}
 use Rattle.asl_records.specs.View.{declared_view}
 use Rattle.asl_records.specs.declared.records.TaskShapes.{TaskShapes}
-use Rattle.asl_states.specs.Table.{table_view}
+use Rattle.asl_machine_table.specs.Table.{table_view}
 use Rattle.asl_infer.proofs.TaskNames.{UnknownLeft, one-unknown, task_seen}
 use Rattle.asl_infer.proofs.declarations.first_unknown.Goals as goal
 

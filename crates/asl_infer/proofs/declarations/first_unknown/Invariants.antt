@@ -1,6 +1,6 @@
 use Rattle.std.proofs.Common.{map}
 use Rattle.asl_records.specs.View.{declared_view}
-use Rattle.asl_states.specs.Table.{table_view}
+use Rattle.asl_machine_table.specs.Table.{table_view}
 use Rattle.asl_infer.proofs.TaskNames.{UnknownLeft, task_seen}
 use Rattle.asl_infer.proofs.declarations.first_unknown.Given as goal
 

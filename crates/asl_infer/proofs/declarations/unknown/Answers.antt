@@ -1,5 +1,5 @@
 use Rattle.std.proofs.Common.{refl, sym, ◌∙◌}
-use Rattle.asl_states.specs.Table.{table_view}
+use Rattle.asl_machine_table.specs.Table.{table_view}
 use Rattle.asl_infer.proofs.TaskNames.{known-of, unknown-of}
 use Rattle.asl_infer.proofs.declarations.unknown.Goals as goal
 

@@ -1,6 +1,6 @@
 use Rattle.std.proofs.Common.{ℕ, Global, Vec, ap, ◌∙◌}
 use Rattle.asl_records.specs.View.{declared_view}
-use Rattle.asl_states.specs.Table.{table_view}
+use Rattle.asl_machine_table.specs.Table.{table_view}
 use Rattle.asl_infer.proofs.CalmStates.{first-calm}
 use Rattle.asl_infer.proofs.Declared.{given_of_kept}
 use Rattle.asl_infer.proofs.inferring.begin.Goals as goal

@@ -1,7 +1,7 @@
 use Rattle.std.proofs.lemmas.Result.{err_from_is_err_and}
 use Rattle.asl_records.specs.Numbered.{numbered_view}
 use Rattle.asl_records.specs.View.{declared_view}
-use Rattle.asl_states.specs.Table.{table_view}
+use Rattle.asl_machine_table.specs.Table.{table_view}
 use Rattle.asl_drafts.specs.Drafted.{draft_view}
 use Rattle.asl_infer.proofs.Inferred.{certificate-ordered, given-infers, given-refuses, names-refuse}
 use Rattle.asl_infer.proofs.inferring.settle.Goals as goal

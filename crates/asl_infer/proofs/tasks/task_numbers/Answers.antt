@@ -2,7 +2,7 @@ use Rattle.std.proofs.Common.{◌+◌, length, sym, ap, ◌∙◌}
 use Rattle.std.proofs.lemmas.List.{length_push}
 use Rattle.asl_numbered.specs.Laws.{keeps_trans}
 use Rattle.asl_records.specs.View.{declared_view}
-use Rattle.asl_states.specs.Table.{table_view}
+use Rattle.asl_machine_table.specs.Table.{table_view}
 use Rattle.asl_infer.proofs.Declared.{one_more_task}
 use Rattle.asl_infer.proofs.tasks.task_numbers.Goals as goal
 

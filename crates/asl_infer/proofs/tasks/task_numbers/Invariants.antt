@@ -1,7 +1,7 @@
 use Rattle.std.proofs.Common.{◌≡◌, length}
 use Rattle.asl_numbered.specs.Expansion.{Keeps}
 use Rattle.asl_records.specs.View.{declared_view}
-use Rattle.asl_states.specs.Table.{table_view}
+use Rattle.asl_machine_table.specs.Table.{table_view}
 use Rattle.asl_infer.specs.Tasks.{AreTasks}
 use Rattle.asl_infer.proofs.tasks.task_numbers.Given as goal
 

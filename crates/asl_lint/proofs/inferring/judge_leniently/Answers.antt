@@ -1,7 +1,7 @@
 use Rattle.std.proofs.Common.{[], ◌∷◌, IfNone, IfSome, map, sym, ap, ◌∙◌, subst}
 use Rattle.std.proofs.lemmas.Result.{IfOk-weaker}
 use Rattle.asl_model.specs.Numbering.{table_of}
-use Rattle.asl_states.specs.Table.{table_view}
+use Rattle.asl_machine_table.specs.Table.{table_view}
 use Rattle.asl_records.specs.Numbered.{numbered_view}
 use Rattle.asl_records.specs.View.{declared_view}
 use Rattle.asl_check.specs.View.{finding_view}

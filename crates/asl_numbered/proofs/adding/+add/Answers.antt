@@ -9,9 +9,8 @@ use Rattle.asl_shape.specs.View.{view, shapes_view, fields_view}
 use Rattle.asl_shape.proofs.Depths.{place_depth, entry_depth}
 use Rattle.asl_shape.proofs.Spellings.{Mention}
 use Rattle.asl_numbered.specs.declared.node.Node.TheVariants.{List as Elements, Object}
-use Rattle.asl_numbered.specs.Expansion.{expansions, RefersBelow}
+use Rattle.asl_numbered.specs.Expansion.{RefersBelow}
 use Rattle.asl_numbered.specs.TakenApart.{HasArraysAt, HasObjectsAt}
-use Rattle.asl_numbered.proofs.Expansions.{as_many}
 use Rattle.asl_numbered.proofs.Growing.{number_step, numbers_end, field_step, numbered_list_refers, numbered_object_refers, arrays_added, objects_added}
 use Rattle.asl_numbered.proofs.adding.+add.Goals as goal
 use Rattle.asl_numbered.specs.Laws.{keeps_trans}
@@ -69,16 +68,16 @@ add_fields-add-requires t c =
 
 pub add_arrays-put-requires-clause-refers : goal.add_arrays-put-requires-clause-refers
 add_arrays-put-requires-clause-refers t c =
-    subst (λ n. RefersBelow n (Elements c.in_ok-places.places c.in_ok-further.further)) (as_many _) (numbered_list_refers _ _ _ _ c.in_ok-places.places c.in_ok-further.further c.in_ok-further.ensures.keeps c.in_ok-places.ensures.numbers c.in_ok-further.ensures.number)
+    numbered_list_refers _ _ _ _ c.in_ok-places.places c.in_ok-further.further c.in_ok-further.ensures.keeps c.in_ok-places.ensures.numbers c.in_ok-further.ensures.number
 
 pub add_arrays-returns-clause-number : goal.add_arrays-returns-clause-number
 add_arrays-returns-clause-number t c =
-    subst (λ arrays. HasArraysAt (expansions c.put.new.self) (arrays_view arrays) (Some c.in_ok-put.field-0)) (sym c.in-Some.is) (arrays_added _ _ _ _ _ c.in_ok-places.places c.in_ok-further.further c.in_ok-put.field-0 c.in_ok-further.ensures.keeps c.in_ok-places.ensures.numbers c.in_ok-further.ensures.number c.in_ok-put.ensures.number)
+    subst (λ arrays. HasArraysAt c.put.new.self (arrays_view arrays) (Some c.in_ok-put.field-0)) (sym c.in-Some.is) (arrays_added _ _ _ _ _ c.in_ok-places.places c.in_ok-further.further c.in_ok-put.field-0 c.in_ok-further.ensures.keeps c.in_ok-places.ensures.numbers c.in_ok-further.ensures.number c.in_ok-put.ensures.number)
 
 pub add_objects-put-requires-clause-refers : goal.add_objects-put-requires-clause-refers
 add_objects-put-requires-clause-refers t c =
-    subst (λ n. RefersBelow n (Object c.in_ok-fields.fields c.in-Some.mentions.extra)) (as_many _) (numbered_object_refers _ _ c.in_ok-fields.fields c.in-Some.mentions.extra c.in_ok-fields.ensures.numbers)
+    numbered_object_refers _ _ c.in_ok-fields.fields c.in-Some.mentions.extra c.in_ok-fields.ensures.numbers
 
 pub add_objects-returns-clause-number : goal.add_objects-returns-clause-number
 add_objects-returns-clause-number t c =
-    subst (λ objects. HasObjectsAt (expansions c.put.new.self) (objects_view objects) (Some c.in_ok-put.field-0)) (sym c.in-Some.is) (objects_added _ _ _ c.in_ok-fields.fields c.in-Some.mentions.extra c.in_ok-put.field-0 c.in_ok-fields.ensures.numbers c.in_ok-put.ensures.number)
+    subst (λ objects. HasObjectsAt c.put.new.self (objects_view objects) (Some c.in_ok-put.field-0)) (sym c.in-Some.is) (objects_added _ _ _ c.in_ok-fields.fields c.in-Some.mentions.extra c.in_ok-put.field-0 c.in_ok-fields.ensures.numbers c.in_ok-put.ensures.number)

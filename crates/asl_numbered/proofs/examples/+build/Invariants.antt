@@ -3,7 +3,7 @@ use Rattle.asl_model.specs.Examples.{needed_examples}
 use Rattle.asl_tree.specs.View.{view, entries_view}
 use Rattle.asl_numbered.specs.declared.node.NodeField.{NodeField}
 use Rattle.asl_numbered.specs.Examples.{examples_at, without}
-use Rattle.asl_numbered.specs.Expansion.{expansions, fields_at, numbers_in, AreBelow}
+use Rattle.asl_numbered.specs.Expansion.{fields_at, numbers_in, AreBelow}
 use Rattle.asl_numbered.proofs.examples.+build.Given as goal
 
 abbrev pub decreases-build : goal.decreases-build
@@ -20,11 +20,11 @@ decreases-build_needed l = 3 * l.bound
 
 abbrev pub invariant-push_examples-loop-number : goal.invariant-push_examples-loop-number
 invariant-push_examples-loop-number l =
-    (map view l.trees.items ≡ map view l.initial.trees.items ++ examples_at (expansions l.table) (take l.number-index l.numbers))
+    (map view l.trees.items ≡ map view l.initial.trees.items ++ examples_at l.table (take l.number-index l.numbers))
     × AreBelow l.bound (drop l.number-index l.numbers)
 
 abbrev pub invariant-build_needed-loop-name : goal.invariant-build_needed-loop-name
 invariant-build_needed-loop-name l =
     (done : List (String Global × NodeField)) × (l.fields.entries ≡ done ++ l.name-iterator)
-    × (entries_view l.built.entries ≡ without (option_map (λ name. string_bytes name.now) l.omitted) (needed_examples (fields_at (expansions l.table) done)))
+    × (entries_view l.built.entries ≡ without (option_map (λ name. string_bytes name.now) l.omitted) (needed_examples (fields_at l.table done)))
     × AreBelow l.bound (numbers_in l.name-iterator)

@@ -6,7 +6,6 @@ use Rattle.std.specs.String.{string_cmp}
 use Rattle.asl_shape.specs.declared.shape.Shape.TheViews.{roll-Field}
 use Rattle.asl_shape.proofs.Sights.{inserted_proper, pushed_proper}
 use Rattle.asl_numbered.specs.declared.node.NodeField.{NodeField}
-use Rattle.asl_numbered.specs.Expansion.{expansions}
 use Rattle.asl_numbered.specs.TakenApart.{AreArraysAt, AreObjectsAt, AreArraysIfAny, AreObjectsIfAny}
 use Rattle.asl_numbered.proofs.Growing.{expanded_push, expanded_step}
 use Rattle.asl_numbered.proofs.expanding.+expand.Goals as goal
@@ -23,7 +22,7 @@ expand_fields-loop-name-preserved t c =
     let field = roll-Field (record { needed = m.1.needed; shape = c.in_ok-shape.shape }) in (
       done ++ m ∷ [],
       all ∙ sym (append_assoc done (m ∷ []) left),
-      expanded_step (expansions c.args.table.now) done left m l.expanded.entries c.insert.new.self.entries c.in_ok-key.key field sorted l.invariant.2 c.in_ok-key.ensures.cases refl c.in_ok-shape.ensures.expanded c.in_ok-insert.ensures.entries,
+      expanded_step c.args.table.now done left m l.expanded.entries c.insert.new.self.entries c.in_ok-key.key field sorted l.invariant.2 c.in_ok-key.ensures.cases refl c.in_ok-shape.ensures.expanded c.in_ok-insert.ensures.entries,
       (below_next_field c.args.bound l.name-iterator left m c.in-Some.ensures.steps l.invariant.3).1,
       inserted_proper l.expanded.entries c.insert.new.self.entries c.in_ok-key.key field l.invariant.4 c.in_ok-shape.ensures.proper c.in_ok-insert.ensures.entries,
     )
@@ -47,7 +46,7 @@ expand_all-loop-number-preserved t c =
     let n = get_or numbers i 0 in
     let split : drop i numbers ≡ n ∷ drop (i + 1) numbers = grind (arith, common_steps) in
     let more : take (i + 1) numbers ≡ take i numbers ++ n ∷ [] = grind (arith, common_steps) in (
-      expanded_push (expansions c.args.table.now) (take i numbers) (take (i + 1) numbers) n l.shapes.items c.push.new.self.items c.in_ok-expand.field-0 l.invariant.0 c.in_ok-expand.ensures.expanded more c.in_ok-push.ensures.items,
+      expanded_push c.args.table.now (take i numbers) (take (i + 1) numbers) n l.shapes.items c.push.new.self.items c.in_ok-expand.field-0 l.invariant.0 c.in_ok-expand.ensures.expanded more c.in_ok-push.ensures.items,
       (below_next c.args.bound (drop i numbers) (drop (i + 1) numbers) n split l.invariant.1).1,
       pushed_proper l.shapes.items c.push.new.self.items c.in_ok-expand.field-0 l.invariant.2 c.in_ok-expand.ensures.proper c.in_ok-push.ensures.items,
     )
@@ -61,10 +60,10 @@ expand_fields-expand-requires t c =
 
 pub expand_arrays-expand_all-requires : goal.expand_arrays-expand_all-requires
 expand_arrays-expand_all-requires t c =
-    let own : AreArraysAt (expansions c.args.table.now) c.args.number c.in-Some.lists = subst (AreArraysIfAny (expansions c.args.table.now) c.args.number) c.in-Some.is c.requires in
+    let own : AreArraysAt c.args.table.now c.args.number c.in-Some.lists = subst (AreArraysIfAny c.args.table.now c.args.number) c.in-Some.is c.requires in
     (omega arith, below-wider _ _ _ own.within own.first)
 
 pub expand_objects-expand_fields-requires : goal.expand_objects-expand_fields-requires
 expand_objects-expand_fields-requires t c =
-    let own : AreObjectsAt (expansions c.args.table.now) c.args.number c.in-Some.mentions = subst (AreObjectsIfAny (expansions c.args.table.now) c.args.number) c.in-Some.is c.requires in
+    let own : AreObjectsAt c.args.table.now c.args.number c.in-Some.mentions = subst (AreObjectsIfAny c.args.table.now c.args.number) c.in-Some.is c.requires in
     (omega arith, below-wider _ _ _ own.within own.fields)

@@ -3,7 +3,7 @@ use Rattle.std.specs.Prelude.{IsTrue}
 use Rattle.asl_shape.specs.Properness.{are_proper, fields_proper}
 use Rattle.asl_shape.specs.View.{shapes_view, fields_view}
 use Rattle.asl_numbered.specs.declared.node.NodeField.{NodeField}
-use Rattle.asl_numbered.specs.Expansion.{expansions, shapes_at, fields_at, numbers_in, AreBelow}
+use Rattle.asl_numbered.specs.Expansion.{shapes_at, fields_at, numbers_in, AreBelow}
 use Rattle.asl_numbered.proofs.expanding.+expand.Given as goal
 
 abbrev pub decreases-expand : goal.decreases-expand
@@ -26,11 +26,11 @@ decreases-expand_fields l = 4 * l.bound
 
 abbrev pub invariant-expand_all-loop-number : goal.invariant-expand_all-loop-number
 invariant-expand_all-loop-number l =
-    (shapes_view l.shapes.items ≡ shapes_at (expansions l.table) (take l.number-index l.numbers))
+    (shapes_view l.shapes.items ≡ shapes_at l.table (take l.number-index l.numbers))
     × AreBelow l.bound (drop l.number-index l.numbers) × IsTrue (are_proper l.shapes.items)
 
 abbrev pub invariant-expand_fields-loop-name : goal.invariant-expand_fields-loop-name
 invariant-expand_fields-loop-name l =
     (done : List (String Global × NodeField)) × (l.fields.entries ≡ done ++ l.name-iterator)
-    × (fields_view l.expanded.entries ≡ fields_at (expansions l.table) done)
+    × (fields_view l.expanded.entries ≡ fields_at l.table done)
     × AreBelow l.bound (numbers_in l.name-iterator) × IsTrue (fields_proper l.expanded.entries)

@@ -1,5 +1,4 @@
 use Rattle.std.proofs.Common.{◌∙◌, sym}
-use Rattle.asl_numbered.specs.Expansion.{expansions}
 use Rattle.asl_numbered.proofs.Seeking.{forbidden_last}
 use Rattle.asl_numbered.proofs.finding.find_fields.Goals as goal
 use Rattle.asl_numbered.specs.Laws.{below-wider}
@@ -11,4 +10,4 @@ pub find_unmentioned-unmentioned-requires-clause-outer : goal.find_unmentioned-u
 find_unmentioned-unmentioned-requires-clause-outer c = below-wider _ _ _ c.requires.outer.within c.requires.outer.fields
 
 pub returns-clause-found : goal.returns-clause-found
-returns-clause-found c = forbidden_last (expansions c.args.table.now) c.args.bound c.args.inner c.args.outer c.in_ok-mentioned.mentioned c.find_unmentioned-unmentioned.result c.find_forbidden.result c.in_ok-mentioned.ensures.found (sym c.is_some.ensures ∙ c.if-is_some.false) c.find_unmentioned-unmentioned.ensures (sym c.is_some-2.ensures ∙ c.if-is_some-2.false) c.if-outer.false (c.find_forbidden.ensures c.args.bound)
+returns-clause-found c = forbidden_last c.args.table.now c.args.bound c.args.inner c.args.outer c.in_ok-mentioned.mentioned c.find_unmentioned-unmentioned.result c.find_forbidden.result c.in_ok-mentioned.ensures.found (sym c.is_some.ensures ∙ c.if-is_some.false) c.find_unmentioned-unmentioned.ensures (sym c.is_some-2.ensures ∙ c.if-is_some-2.false) c.if-outer.false (c.find_forbidden.ensures c.args.bound)

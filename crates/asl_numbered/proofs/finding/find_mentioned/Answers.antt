@@ -3,7 +3,7 @@ use Rattle.std.specs.BTreeMap.{is_at}
 use Rattle.std.specs.String.{string_cmp}
 use Rattle.asl_model.specs.Examples.{mentioned_shape}
 use Rattle.asl_numbered.specs.declared.node.NodeField.{NodeField}
-use Rattle.asl_numbered.specs.Expansion.{expansions, shape_at, fields_at}
+use Rattle.asl_numbered.specs.Expansion.{shape_at, fields_at}
 use Rattle.asl_numbered.specs.Outside.{needed_of, mentioned_fields}
 use Rattle.asl_numbered.proofs.Comparisons.{found-below}
 use Rattle.asl_numbered.proofs.Seeking.{field_found, field_passed, mentioned_number, mentioned_none, mentioned_inside}
@@ -20,7 +20,7 @@ is_inside-requires-clause-sought c =
 pub returns-then-not-branch-clause-found : goal.returns-then-not-branch-clause-found
 returns-then-not-branch-clause-found c =
     let l = c.loop-name in
-    let table = expansions c.args.table.now in
+    let table = c.args.table.now in
     let inner = c.args.inner.now.entries in
     let f : String Global × NodeField = (c.in-Some.name.now, c.in-Some.field.now) in
     let below = below_next_field c.args.bound l.name-iterator c.next.new.self f c.in-Some.ensures.steps l.invariant.1 in
@@ -29,7 +29,7 @@ returns-then-not-branch-clause-found c =
 pub loop-name-preserved-else-not-branch : goal.loop-name-preserved-else-not-branch
 loop-name-preserved-else-not-branch c =
     let l = c.loop-name in
-    let table = expansions c.args.table.now in
+    let table = c.args.table.now in
     let inner = c.args.inner.now.entries in
     let f : String Global × NodeField = (c.in-Some.name.now, c.in-Some.field.now) in
     let below = below_next_field c.args.bound l.name-iterator c.next.new.self f c.in-Some.ensures.steps l.invariant.1 in (
@@ -41,7 +41,7 @@ loop-name-preserved-else-not-branch c =
 pub loop-name-preserved : goal.loop-name-preserved
 loop-name-preserved c =
     let l = c.loop-name in
-    let table = expansions c.args.table.now in
+    let table = c.args.table.now in
     let inner = c.args.inner.now.entries in
     let f : String Global × NodeField = (c.in-Some.name.now, c.in-Some.field.now) in
     let below = below_next_field c.args.bound l.name-iterator c.next.new.self f c.in-Some.ensures.steps l.invariant.1 in (

@@ -1,7 +1,7 @@
 use Rattle.std.proofs.Common.{◌≡◌, ◌≤◌, ◌+◌, ◌∷◌, [], ◌++◌, length, take, drop, get_or, refl, sym, ◌∙◌, subst, arith}
 use Rattle.std.proofs.lemmas.Grind.{common_steps}
 use Rattle.std.specs.Slice.Iter.{iter_rest}
-use Rattle.asl_numbered.specs.Expansion.{expansions, shape_at, AreBelow}
+use Rattle.asl_numbered.specs.Expansion.{shape_at, AreBelow}
 use Rattle.asl_numbered.specs.Outside.{first_shape, found_elements}
 use Rattle.asl_numbered.proofs.Parts.{taken_next, part-below}
 use Rattle.asl_numbered.proofs.Seeking.{places_begun, place_found, place_passed, further_end, part_found, nothing_found, inside_none, bounds-fall}
@@ -12,7 +12,7 @@ pub loop-index-init : goal.loop-index-init
 loop-index-init c =
     let outer = c.args.outer in
     let bounds : iter_rest c.iter-left.result ≡ outer.first.now = c.iter-left.ensures.rest in (
-      places_begun (expansions c.args.table.now) c.args.inner outer (iter_rest c.iter-left.result) bounds,
+      places_begun c.args.table.now c.args.inner outer (iter_rest c.iter-left.result) bounds,
       subst (AreBelow c.args.bound) (sym bounds) (below-wider outer.number c.args.bound outer.first.now c.requires.outer.within c.requires.outer.first),
       subst (λ bs. length bs ≤ length c.args.inner.places.now) (sym bounds) c.requires.enough,
       c.requires.right,
@@ -25,7 +25,7 @@ is_inside-requires-clause-sought c =
     let places = c.args.inner.places.now in
     let n = get_or places i 0 in
     let split : drop i places ≡ n ∷ drop (i + 1) places = grind (arith, common_steps) in
-    let below = below_next (length (expansions c.args.table.now)) (drop i places) (drop (i + 1) places) n split (below-drop _ i places c.requires.inner.places) in
+    let below = below_next (length c.args.table.now) (drop i places) (drop (i + 1) places) n split (below-drop _ i places c.requires.inner.places) in
     let next = taken_next l.left c.next.new.self c.next.result _ c.unwrap_or-second.result c.next.ensures.steps c.unwrap_or-second.ensures in
     let bound = part-below c.args.bound (iter_rest l.left) (iter_rest c.next.new.self) c.args.outer.rest c.unwrap_or-second.result.now next (omega (arith, c.requires.outer.rest, c.requires.outer.within)) l.invariant.1 in
     record { first = below.0; second = omega (arith, bound.0, c.requires.bound) }
@@ -34,7 +34,7 @@ pub returns-then-not-branch-clause-found : goal.returns-then-not-branch-clause-f
 returns-then-not-branch-clause-found c =
     let l = c.loop-index in
     let i = l.index in
-    let table = expansions c.args.table.now in
+    let table = c.args.table.now in
     let places = c.args.inner.places.now in
     let n = get_or places i 0 in
     let split : drop i places ≡ n ∷ drop (i + 1) places = grind (arith, common_steps) in
@@ -47,7 +47,7 @@ pub loop-index-preserved : goal.loop-index-preserved
 loop-index-preserved c =
     let l = c.loop-index in
     let i = l.index in
-    let table = expansions c.args.table.now in
+    let table = c.args.table.now in
     let places = c.args.inner.places.now in
     let n = get_or places i 0 in
     let split : drop i places ≡ n ∷ drop (i + 1) places = grind (arith, common_steps) in
@@ -63,7 +63,7 @@ loop-index-preserved c =
 pub returns-then-branch-clause-found : goal.returns-then-branch-clause-found
 returns-then-branch-clause-found c =
     let l = c.loop-index in
-    let table = expansions c.args.table.now in
+    let table = c.args.table.now in
     let end = further_end table c.args.inner.places.now l.index (first_shape table c.args.inner.further) (iter_rest l.left) c.args.outer.rest (found_elements table c.args.inner c.args.outer) (omega (arith, c.loop-index-test.false)) l.invariant.2 l.invariant.0 in
     let none = inside_none (first_shape table c.args.inner.further) (shape_at table c.args.outer.rest) c.in_ok-is_inside-2.field-0 c.in_ok-is_inside-2.ensures.as_defined c.if-branch.true in
     nothing_found table c.args.bound _ (end ∙ rw none refl)
@@ -71,7 +71,7 @@ returns-then-branch-clause-found c =
 pub returns-clause-found : goal.returns-clause-found
 returns-clause-found c =
     let l = c.loop-index in
-    let table = expansions c.args.table.now in
+    let table = c.args.table.now in
     let places = c.args.inner.places.now in
     let end = further_end table places l.index (first_shape table c.args.inner.further) (iter_rest l.left) c.args.outer.rest (found_elements table c.args.inner c.args.outer) (omega (arith, c.loop-index-test.false)) l.invariant.2 l.invariant.0 in
     part_found table c.args.bound _ _ _ c.in_ok-is_inside-2.field-0 c.in_ok-is_inside-2.ensures.as_defined c.if-branch.false (λ there. end) (below-append (length table) places [] c.requires.inner.places tt) (record { first = c.requires.inner.further; second = omega (arith, c.requires.outer.rest, c.requires.outer.within) })

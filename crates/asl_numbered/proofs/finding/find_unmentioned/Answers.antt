@@ -1,7 +1,7 @@
 use Rattle.std.proofs.Common.{String, Global, ◌∙◌, sym, refl}
 use Rattle.asl_model.specs.Examples.{unmentioned_shape}
 use Rattle.asl_numbered.specs.declared.node.NodeField.{NodeField}
-use Rattle.asl_numbered.specs.Expansion.{expansions, shape_at, fields_at}
+use Rattle.asl_numbered.specs.Expansion.{shape_at, fields_at}
 use Rattle.asl_numbered.specs.Outside.{needed_of, unmentioned_fields}
 use Rattle.asl_numbered.proofs.Comparisons.{any_sub}
 use Rattle.asl_numbered.proofs.Seeking.{field_found, field_passed, unmentioned_any, unmentioned_shut, unmentioned_not, unmentioned_full}
@@ -12,7 +12,7 @@ use Rattle.asl_numbered.specs.Laws.{below_next_field}
 pub returns-then-not-takes_all : goal.returns-then-not-takes_all
 returns-then-not-takes_all c =
     let l = c.loop-name in
-    let table = expansions c.args.table.now in
+    let table = c.args.table.now in
     let inner = c.args.inner.fields.now.entries in
     let f : String Global × NodeField = (c.in-Some.name.now, c.in-Some.field.now) in
     let below = below_next_field c.args.bound l.name-iterator c.next.new.self f c.in-Some.ensures.steps l.invariant.1 in
@@ -21,7 +21,7 @@ returns-then-not-takes_all c =
 pub loop-name-preserved : goal.loop-name-preserved
 loop-name-preserved c =
     let l = c.loop-name in
-    let table = expansions c.args.table.now in
+    let table = c.args.table.now in
     let inner = c.args.inner.fields.now.entries in
     let f : String Global × NodeField = (c.in-Some.name.now, c.in-Some.field.now) in
     let below = below_next_field c.args.bound l.name-iterator c.next.new.self f c.in-Some.ensures.steps l.invariant.1 in (

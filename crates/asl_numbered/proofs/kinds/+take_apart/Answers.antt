@@ -1,6 +1,6 @@
 use Rattle.std.proofs.Common.{◌≡◌, ◌+◌, ◌∷◌, ap, drop, map, get_or, ◌∙◌, None, refl, arith}
 use Rattle.std.proofs.lemmas.Grind.{common_steps}
-use Rattle.asl_numbered.specs.Expansion.{expansions, shape_at}
+use Rattle.asl_numbered.specs.Expansion.{shape_at}
 use Rattle.asl_numbered.specs.TakenApart.{kinds_over}
 use Rattle.asl_numbered.proofs.Ascending.{next_shape}
 use Rattle.asl_numbered.proofs.Tables.{none_past}
@@ -10,14 +10,14 @@ use Rattle.asl_numbered.specs.Laws.{below_next}
 
 pub take_apart-returns-in-None-clause-shown : goal.take_apart-returns-in-None-clause-shown
 take_apart-returns-in-None-clause-shown t c =
-    ap (kinds_over (expansions c.args.table.now)) c.no_kinds.ensures ∙ none_past c.args.table.now c.args.number None refl c.in-None.ensures.there
+    ap (kinds_over c.args.table.now) c.no_kinds.ensures ∙ none_past c.args.table.now c.args.number None refl c.in-None.ensures.there
 
 pub take_each_apart-loop-part-preserved : goal.take_each_apart-loop-part-preserved
 take_each_apart-loop-part-preserved t c =
     let l = c.loop-part in
     let i = l.part-index in
     let parts = c.args.parts.now in
-    let table = expansions c.args.table.now in
+    let table = c.args.table.now in
     let part = get_or parts i 0 in
     let split : drop i parts ≡ part ∷ drop (i + 1) parts = grind (arith, common_steps) in
     let below = below_next c.args.bound (drop i parts) (drop (i + 1) parts) part split l.invariant.2 in (

@@ -1,5 +1,4 @@
 use Rattle.std.proofs.Common.{Some, subst}
-use Rattle.asl_numbered.specs.Expansion.{expansions}
 use Rattle.asl_numbered.specs.Outside.{sought_tree, IsFound}
 use Rattle.asl_numbered.proofs.Stepping.{step_more, steps_within, next_sought}
 use Rattle.asl_numbered.proofs.outside.find_steps.Goals as goal
@@ -7,7 +6,7 @@ use Rattle.asl_numbered.proofs.outside.find_steps.Goals as goal
 pub loop-left-preserved : goal.loop-left-preserved
 loop-left-preserved c =
     let l = c.loop-left in
-    let table = expansions c.args.table.now in
+    let table = c.args.table.now in
     let next = c.in-Some.next in
     let found = c.in-Some-2.found in
     let own = subst (IsFound table next.second (sought_tree table (Some next))) c.in-Some-2.is c.in_ok-found.ensures.found in (

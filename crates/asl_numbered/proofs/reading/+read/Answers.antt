@@ -9,14 +9,13 @@ use Rattle.asl_tree.specs.declared.Tree.{Tree}
 use Rattle.asl_shape.specs.LevelView.{level_view, list_view, object_view, texts}
 use Rattle.asl_shape.specs.Spelled as trees
 use Rattle.asl_shape.proofs.Sizes.{level_size, list_size, smaller, element_smaller, member_smaller}
-use Rattle.asl_numbered.specs.Expansion.{expansions, fields_at, numbers_in, AreBelow, AreFieldsOf}
+use Rattle.asl_numbered.specs.Expansion.{fields_at, numbers_in, AreBelow, AreFieldsOf}
 use Rattle.asl_model.specs.ShapeSpelling.{with_all_needed}
 use Rattle.asl_numbered.specs.declared.kinds.KindNumbers.{KindNumbers}
 use Rattle.asl_numbered.specs.declared.node.NodeField.{NodeField}
 use Rattle.asl_numbered.proofs.Appending.{names}
 use Rattle.asl_numbered.specs.Reading.{IsRead, IsReadRest, AreObjectsRead, TellsOneOf}
 use Rattle.asl_numbered.specs.References.{shapes_given, numbers_given, list_inside, object_inside, each_of, values_of, TellsOf}
-use Rattle.asl_numbered.proofs.Expansions.{as_many}
 use Rattle.asl_numbered.proofs.Readings.{given_kept, given_same, reference_read, reference_told, level_told, over_answer, over_refusal, one_told, one_left, one_right, element_there, none_read, number_read, list_refers, list_read, kinds_read, no_list_read, no_object_read, no_rest_read, rest_answer, member_there, no_fields_read, field_read, object_refers, object_read}
 use Rattle.asl_numbered.proofs.reading.+read.Goals as goal
 use Rattle.asl_numbered.specs.Laws.{keeps_same, keeps_trans}
@@ -27,18 +26,18 @@ read-returns-in-Some-Some-clause-number t c =
     let given = c.args.given in
     let tree = trees.view c.args.tree.now in
     let is = sym c.referred.ensures ∙ c.in-Some-Some.is ∙ ap Some c.in-Some-Some.field-0-is in
-    subst (IsRead c.args.several (shapes_given (expansions table) given) tree (expansions table)) (sym c.in-Some-Some.number-is) (reference_read c.args.several table given tree c.in-Some-Some.number c.requires is)
+    subst (IsRead c.args.several (shapes_given table given) tree table) (sym c.in-Some-Some.number-is) (reference_read c.args.several table given tree c.in-Some-Some.number c.requires is)
 
 pub read-returns-in-Some-None-clause-refused : goal.read-returns-in-Some-None-clause-refused
 read-returns-in-Some-None-clause-refused t c =
-    reference_told c.args.several (expansions c.args.table.now) c.args.given (trees.view c.args.tree.now) (sym c.referred.ensures ∙ c.in-Some-None.is ∙ ap Some c.in-Some-None.field-0-is)
+    reference_told c.args.several c.args.table.now c.args.given (trees.view c.args.tree.now) (sym c.referred.ensures ∙ c.in-Some-None.is ∙ ap Some c.in-Some-None.field-0-is)
 
 -- ---- the level of a spelling
 
 pub read_spelling-returns-in_err-level-clause-refused : goal.read_spelling-returns-in_err-level-clause-refused
 read_spelling-returns-in_err-level-clause-refused t c =
     let p = err_from_is_err_and c.from_residual.result c.from_residual.ensures.1 in
-    rw (p.1, p.2) (level_told c.args.several (expansions c.args.table.now) c.args.given (trees.view c.args.tree.now) c.in_err-level.field-0.0 c.requires.spelled c.in_err-level.ensures.refused)
+    rw (p.1, p.2) (level_told c.args.several c.args.table.now c.args.given (trees.view c.args.tree.now) c.in_err-level.field-0.0 c.requires.spelled c.in_err-level.ensures.refused)
 
 pub read_spelling-read_over-requires : goal.read_spelling-read_over-requires
 read_spelling-read_over-requires t c = (omega (arith, smaller _ _ _ c.in_ok-level.ensures.level), c.requires.given)
@@ -64,7 +63,7 @@ read_over-returns-in_err-arrays-in-Kinds-clause-refused t c =
     let object = object_inside (option_map object_view c.in-Kinds.object) in
     let e = c.in_err-arrays-in-Kinds.field-0.0 in
     let p = err_from_is_err_and c.from_residual-in_err-arrays-in-Kinds.result c.from_residual-in_err-arrays-in-Kinds.ensures.1 in
-    rw (p.1, p.2, c.in-Kinds.is) (one_left c.args.several (shapes_given (expansions c.args.table.now) c.args.given) list object e c.in_err-arrays-in-Kinds.ensures.refused)
+    rw (p.1, p.2, c.in-Kinds.is) (one_left c.args.several (shapes_given c.args.table.now c.args.given) list object e c.in_err-arrays-in-Kinds.ensures.refused)
 
 pub read_over-returns-in_err-objects-in-Kinds-clause-refused : goal.read_over-returns-in_err-objects-in-Kinds-clause-refused
 read_over-returns-in_err-objects-in-Kinds-clause-refused t c =
@@ -73,7 +72,7 @@ read_over-returns-in_err-objects-in-Kinds-clause-refused t c =
     let e = c.in_err-objects-in-Kinds.field-0.0 in
     let same = given_same c.args.table.now c.read_list.new.table c.args.given c.in_ok-arrays-in-Kinds.ensures.keeps c.requires in
     let p = err_from_is_err_and c.from_residual-in_err-objects-in-Kinds.result c.from_residual-in_err-objects-in-Kinds.ensures.1 in
-    rw (p.1, p.2, c.in-Kinds.is) (one_right c.args.several (shapes_given (expansions c.args.table.now) c.args.given) list object e (subst (λ given. TellsOneOf c.args.several given object e) same c.in_err-objects-in-Kinds.ensures.refused))
+    rw (p.1, p.2, c.in-Kinds.is) (one_right c.args.several (shapes_given c.args.table.now c.args.given) list object e (subst (λ given. TellsOneOf c.args.several given object e) same c.in_err-objects-in-Kinds.ensures.refused))
 
 pub read_over-returns-in_ok-put_kinds-in-Kinds-clause-number : goal.read_over-returns-in_ok-put_kinds-in-Kinds-clause-number
 read_over-returns-in_ok-put_kinds-in-Kinds-clause-number t c =
@@ -82,10 +81,10 @@ read_over-returns-in_ok-put_kinds-in-Kinds-clause-number t c =
     let objects = c.in_ok-objects-in-Kinds in
     let kinds : KindNumbers = record { null = level.null; boolean = level.boolean; integer = level.integer; text = level.text; arrays = arrays.arrays; objects = objects.objects } in
     let object = option_map object_view level.object in
-    let now = expansions c.read_object.new.table in
+    let now = c.read_object.new.table in
     let same = given_same c.args.table.now c.read_list.new.table c.args.given arrays.ensures.keeps c.requires in
     let others = subst (λ given. AreObjectsRead c.args.several given object now objects.objects) same objects.ensures.number in
-    rw level.is (kinds_read c.args.several (shapes_given (expansions c.args.table.now) c.args.given) (option_map list_view level.list) object (expansions c.read_list.new.table) now _ kinds _ objects.ensures.keeps arrays.ensures.number others c.in_ok-put_kinds-in-Kinds.ensures.number)
+    rw level.is (kinds_read c.args.several (shapes_given c.args.table.now c.args.given) (option_map list_view level.list) object c.read_list.new.table now _ kinds _ objects.ensures.keeps arrays.ensures.number others c.in_ok-put_kinds-in-Kinds.ensures.number)
 
 -- ---- lists
 
@@ -103,19 +102,19 @@ read_list-returns-in_err-rest-clause-refused t c =
     let e = c.in_err-rest.field-0.0 in
     let same = given_same c.args.table.now c.read_elements.new.table c.args.given c.in_ok-first.ensures.keeps c.requires in
     let p = err_from_is_err_and c.from_residual-in_err-rest.result c.from_residual-in_err-rest.ensures.1 in
-    rw (p.1, p.2, c.in-Some.is) (one_right c.args.several (shapes_given (expansions c.args.table.now) c.args.given) first rest e (subst (λ given. TellsOneOf c.args.several given rest e) same c.in_err-rest.ensures.refused))
+    rw (p.1, p.2, c.in-Some.is) (one_right c.args.several (shapes_given c.args.table.now c.args.given) first rest e (subst (λ given. TellsOneOf c.args.several given rest e) same c.in_err-rest.ensures.refused))
 
 pub read_list-put-requires-clause-refers : goal.read_list-put-requires-clause-refers
 read_list-put-requires-clause-refers t c =
     let same = given_same c.args.table.now c.read_elements.new.table c.args.given c.in_ok-first.ensures.keeps c.requires in
-    let rest = subst (λ given. IsReadRest c.args.several given (trees.tree_there c.in-Some.list.rest) (expansions c.read_rest.new.table) c.in_ok-rest.rest) same c.in_ok-rest.ensures.number in
-    list_refers c.args.several (shapes_given (expansions c.args.table.now) c.args.given) (trees.elements_view c.in-Some.list.first.now) (trees.tree_there c.in-Some.list.rest) c.read_elements.new.table c.read_rest.new.table c.in_ok-first.first c.in_ok-rest.rest c.in_ok-rest.ensures.keeps c.in_ok-first.ensures.numbers rest
+    let rest = subst (λ given. IsReadRest c.args.several given (trees.tree_there c.in-Some.list.rest) c.read_rest.new.table c.in_ok-rest.rest) same c.in_ok-rest.ensures.number in
+    list_refers c.args.several (shapes_given c.args.table.now c.args.given) (trees.elements_view c.in-Some.list.first.now) (trees.tree_there c.in-Some.list.rest) c.read_elements.new.table c.read_rest.new.table c.in_ok-first.first c.in_ok-rest.rest c.in_ok-rest.ensures.keeps c.in_ok-first.ensures.numbers rest
 
 pub read_list-returns-clause-number : goal.read_list-returns-clause-number
 read_list-returns-clause-number t c =
     let same = given_same c.args.table.now c.read_elements.new.table c.args.given c.in_ok-first.ensures.keeps c.requires in
-    let rest = subst (λ given. IsReadRest c.args.several given (trees.tree_there c.in-Some.list.rest) (expansions c.read_rest.new.table) c.in_ok-rest.rest) same c.in_ok-rest.ensures.number in
-    rw c.in-Some.is (list_read c.args.several (shapes_given (expansions c.args.table.now) c.args.given) (list_view c.in-Some.list) _ _ _ c.in_ok-first.first c.in_ok-rest.rest _ c.in_ok-rest.ensures.keeps c.in_ok-first.ensures.numbers rest c.in_ok-put.ensures.number)
+    let rest = subst (λ given. IsReadRest c.args.several given (trees.tree_there c.in-Some.list.rest) c.read_rest.new.table c.in_ok-rest.rest) same c.in_ok-rest.ensures.number in
+    rw c.in-Some.is (list_read c.args.several (shapes_given c.args.table.now c.args.given) (list_view c.in-Some.list) _ _ _ c.in_ok-first.first c.in_ok-rest.rest _ c.in_ok-rest.ensures.keeps c.in_ok-first.ensures.numbers rest c.in_ok-put.ensures.number)
 
 pub read_rest-returns-in_ok-put-in-None-clause-number : goal.read_rest-returns-in_ok-put-in-None-clause-number
 read_rest-returns-in_ok-put-in-None-clause-number t c =
@@ -146,7 +145,7 @@ read_elements-returns-in_err-number-clause-refused t c =
     let split : drop i elements ≡ item ∷ drop (i + 1) elements = grind (arith, common_steps) in
     let same = given_same c.args.table.now c.loop-element.table c.args.given c.loop-element.invariant.0 c.requires in
     let p = err_from_is_err_and c.from_residual-in_err-number.result c.from_residual-in_err-number.ensures.1 in
-    rw (p.1, p.2) (one_told c.args.several (shapes_given (expansions c.args.table.now) c.args.given) (each_of (trees.elements_view elements)) (trees.view item) e (element_there i elements (drop (i + 1) elements) item split) (subst (λ given. TellsOf c.args.several given (trees.view item) e) same c.in_err-number.ensures.refused))
+    rw (p.1, p.2) (one_told c.args.several (shapes_given c.args.table.now c.args.given) (each_of (trees.elements_view elements)) (trees.view item) e (element_there i elements (drop (i + 1) elements) item split) (subst (λ given. TellsOf c.args.several given (trees.view item) e) same c.in_err-number.ensures.refused))
 
 pub read_elements-loop-element-preserved : goal.read_elements-loop-element-preserved
 read_elements-loop-element-preserved t c =
@@ -156,9 +155,9 @@ read_elements-loop-element-preserved t c =
     let item = c.element-item.result in
     let more : take (i + 1) elements ≡ take i elements ++ item ∷ [] = grind (arith, common_steps) in
     let same = given_same c.args.table.now l.table c.args.given l.invariant.0 c.requires in
-    let read = subst (λ given. IsRead c.args.several given (trees.view item) (expansions c.read.new.table) c.in_ok-number.number) same c.in_ok-number.ensures.number in (
+    let read = subst (λ given. IsRead c.args.several given (trees.view item) c.read.new.table c.in_ok-number.number) same c.in_ok-number.ensures.number in (
       keeps_trans _ _ _ l.invariant.0 c.in_ok-number.ensures.keeps,
-      number_read c.args.several (shapes_given (expansions c.args.table.now) c.args.given) (expansions l.table) (expansions c.read.new.table) (take i elements) (take (i + 1) elements) item l.numbers.items c.push.new.self.items c.in_ok-number.number c.in_ok-number.ensures.keeps l.invariant.1 read more c.in_ok-push.ensures.items,
+      number_read c.args.several (shapes_given c.args.table.now c.args.given) l.table c.read.new.table (take i elements) (take (i + 1) elements) item l.numbers.items c.push.new.self.items c.in_ok-number.number c.in_ok-number.ensures.keeps l.invariant.1 read more c.in_ok-push.ensures.items,
     )
 
 -- ---- objects
@@ -185,7 +184,7 @@ read_members-returns-in_err-shape-clause-refused t c =
     let e = c.in_err-shape.field-0.0 in
     let same = given_same c.args.table.now l.table c.args.given l.invariant.2 c.requires in
     let p = err_from_is_err_and c.from_residual-in_err-shape.result c.from_residual-in_err-shape.ensures.1 in
-    rw (p.1, p.2) (one_told c.args.several (shapes_given (expansions c.args.table.now) c.args.given) (values_of (trees.entries_view members)) (trees.view m.1) e (member_there members l.invariant.0 l.name-iterator c.next.new.self m l.invariant.1 c.in-Some.ensures.steps) (subst (λ given. TellsOf c.args.several given (trees.view m.1) e) same c.in_err-shape.ensures.refused))
+    rw (p.1, p.2) (one_told c.args.several (shapes_given c.args.table.now c.args.given) (values_of (trees.entries_view members)) (trees.view m.1) e (member_there members l.invariant.0 l.name-iterator c.next.new.self m l.invariant.1 c.in-Some.ensures.steps) (subst (λ given. TellsOf c.args.several given (trees.view m.1) e) same c.in_err-shape.ensures.refused))
 
 pub read_members-loop-name-preserved : goal.read_members-loop-name-preserved
 read_members-loop-name-preserved t c =
@@ -196,9 +195,9 @@ read_members-loop-name-preserved t c =
     let all : c.args.members.now.entries ≡ done ++ m ∷ left = l.invariant.1 ∙ ap (λ ms. done ++ ms) c.in-Some.ensures.steps in
     let sorted = subst (λ ms. IsStrictlySortedBy string_cmp (keys_of ms)) all c.iter-name-items.ensures.ordered in
     let same = given_same c.args.table.now l.table c.args.given l.invariant.2 c.requires in
-    let read = subst (λ given. IsRead c.args.several given (trees.view m.1) (expansions c.read.new.table) c.in_ok-shape.shape) same c.in_ok-shape.ensures.number in
+    let read = subst (λ given. IsRead c.args.several given (trees.view m.1) c.read.new.table c.in_ok-shape.shape) same c.in_ok-shape.ensures.number in
     let field : NodeField = record { needed = false; shape = c.in_ok-shape.shape } in
-    let step = field_read c.args.several (shapes_given (expansions c.args.table.now) c.args.given) (expansions l.table) (expansions c.read.new.table) done left m l.fields.entries c.insert.new.self.entries c.in_ok-key.key field sorted c.in_ok-shape.ensures.keeps l.invariant.3 l.invariant.4 c.in_ok-key.ensures.cases refl read c.in_ok-insert.ensures.entries in (
+    let step = field_read c.args.several (shapes_given c.args.table.now c.args.given) l.table c.read.new.table done left m l.fields.entries c.insert.new.self.entries c.in_ok-key.key field sorted c.in_ok-shape.ensures.keeps l.invariant.3 l.invariant.4 c.in_ok-key.ensures.cases refl read c.in_ok-insert.ensures.entries in (
       done ++ m ∷ [],
       all ∙ sym (append_assoc done (m ∷ []) left),
       keeps_trans _ _ _ l.invariant.2 c.in_ok-shape.ensures.keeps,
@@ -207,7 +206,7 @@ read_members-loop-name-preserved t c =
     )
 
 pub read_object-require_all-requires : goal.read_object-require_all-requires
-read_object-require_all-requires t c = subst (λ n. AreBelow n (numbers_in c.in_ok-fields.fields.entries)) (as_many _) c.in_ok-fields.ensures.fields.within
+read_object-require_all-requires t c = c.in_ok-fields.ensures.fields.within
 
 pub read_object-put-requires-clause-refers : goal.read_object-put-requires-clause-refers
 read_object-put-requires-clause-refers t c = object_refers _ _ c.require_all.new.fields c.in-Some.object.extra c.in_ok-require_all.ensures.needed
@@ -215,12 +214,12 @@ read_object-put-requires-clause-refers t c = object_refers _ _ c.require_all.new
 pub read_object-returns-clause-number : goal.read_object-returns-clause-number
 read_object-returns-clause-number t c =
     let object = c.in-Some.object in
-    let middle = expansions c.read_properties.new.table in
+    let middle = c.read_properties.new.table in
     let fields = c.in_ok-fields.fields.entries in
-    let now = expansions c.require_all.new.table in
+    let now = c.require_all.new.table in
     let marked = c.require_all.new.fields in
     let marks = subst (λ ns. AreFieldsOf now (with_all_needed object.extra (texts ns) (fields_at middle fields)) marked.entries) c.deref.ensures.value c.in_ok-require_all.ensures.needed in
-    rw c.in-Some.is (object_read c.args.several (shapes_given (expansions c.args.table.now) c.args.given) (object_view object) middle now _ fields marked _ c.in_ok-fields.ensures.fields marks c.in_ok-put.ensures.number)
+    rw c.in-Some.is (object_read c.args.several (shapes_given c.args.table.now c.args.given) (object_view object) middle now _ fields marked _ c.in_ok-fields.ensures.fields marks c.in_ok-put.ensures.number)
 
 pub read_properties-returns-in-None-clause-fields :
     goal.read_properties-returns-in-None-clause-fields

@@ -4,7 +4,7 @@ use Rattle.asl_tree.specs.declared.Tree.{Tree}
 use Rattle.asl_shape.specs.LevelView.{level_view, list_view, object_view}
 use Rattle.asl_shape.specs.Spelled as trees
 use Rattle.asl_shape.proofs.Sizes.{size, elements_size, fields_size, size_there, level_size, list_size, object_size}
-use Rattle.asl_numbered.specs.Expansion.{expansions, Keeps}
+use Rattle.asl_numbered.specs.Expansion.{Keeps}
 use Rattle.asl_numbered.specs.Reading.{AreRead, AreFieldsRead}
 use Rattle.asl_numbered.specs.References.{shapes_given}
 use Rattle.asl_numbered.proofs.Appending.{names}
@@ -39,12 +39,12 @@ decreases-read_members l = 8 * fields_size (trees.entries_view l.members.now.ent
 
 abbrev pub invariant-read_elements-loop-element : goal.invariant-read_elements-loop-element
 invariant-read_elements-loop-element l =
-    Keeps (expansions l.initial.table) (expansions l.table)
-    × AreRead l.several (shapes_given (expansions l.initial.table) l.given) (trees.elements_view (take l.element-index l.elements)) (expansions l.table) l.numbers.items
+    Keeps l.initial.table l.table
+    × AreRead l.several (shapes_given l.initial.table l.given) (trees.elements_view (take l.element-index l.elements)) l.table l.numbers.items
 
 abbrev pub invariant-read_members-loop-name : goal.invariant-read_members-loop-name
 invariant-read_members-loop-name l =
     (done : List (String Global × Tree)) × (l.members.entries ≡ done ++ l.name-iterator)
-    × Keeps (expansions l.initial.table) (expansions l.table)
+    × Keeps l.initial.table l.table
     × (names l.fields.entries ≡ names done)
-    × AreFieldsRead l.several (shapes_given (expansions l.initial.table) l.given) (trees.entries_view done) (expansions l.table) l.fields.entries
+    × AreFieldsRead l.several (shapes_given l.initial.table l.given) (trees.entries_view done) l.table l.fields.entries

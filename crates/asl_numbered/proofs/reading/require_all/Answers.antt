@@ -1,20 +1,18 @@
-use Rattle.std.proofs.Common.{◌≡◌, ◌∷◌, ◌+◌, ap, drop, string_bytes, subst, arith}
+use Rattle.std.proofs.Common.{◌≡◌, ◌∷◌, ◌+◌, ap, drop, string_bytes, arith}
 use Rattle.std.proofs.lemmas.Grind.{common_steps}
 use Rattle.asl_shape.specs.LevelView.{texts}
-use Rattle.asl_numbered.specs.Expansion.{expansions, numbers_in, AreBelow}
-use Rattle.asl_numbered.proofs.Expansions.{as_many}
 use Rattle.asl_numbered.proofs.Marking.{marks_start, marks_step}
 use Rattle.asl_numbered.proofs.reading.require_all.Goals as goal
 use Rattle.asl_numbered.specs.Laws.{keeps_same, keeps_trans}
 
 pub loop-name-init : goal.loop-name-init
 loop-name-init c = (
-  keeps_same (expansions c.args.table.now),
-  marks_start c.args.extra (texts c.args.names.now) (expansions c.args.table.now) c.args.fields.now.entries (rw (as_many c.args.table.now) c.requires),
+  keeps_same c.args.table.now,
+  marks_start c.args.extra (texts c.args.names.now) c.args.table.now c.args.fields.now.entries c.requires,
 )
 
 pub require-requires : goal.require-requires
-require-requires c = subst (λ n. AreBelow n (numbers_in c.loop-name.fields.entries)) (as_many c.loop-name.table) c.loop-name.invariant.1.within
+require-requires c = c.loop-name.invariant.1.within
 
 pub loop-name-preserved : goal.loop-name-preserved
 loop-name-preserved c =

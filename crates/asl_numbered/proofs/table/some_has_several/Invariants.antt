@@ -1,9 +1,9 @@
 use Rattle.std.proofs.Common.{◌≡◌, drop}
 use Rattle.asl_model.specs.Shape as model
-use Rattle.asl_numbered.specs.Expansion.{expansions, shapes_at}
+use Rattle.asl_numbered.specs.Expansion.{shapes_at}
 use Rattle.asl_numbered.proofs.table.some_has_several.Given as goal
 
 abbrev pub invariant-loop-number : goal.invariant-loop-number
 invariant-loop-number l =
-    model.some_has_several (shapes_at (expansions l.table) l.numbers)
-    ≡ model.some_has_several (shapes_at (expansions l.table) (drop l.number-index l.numbers))
+    model.some_has_several (shapes_at l.table l.numbers)
+    ≡ model.some_has_several (shapes_at l.table (drop l.number-index l.numbers))

@@ -6,7 +6,7 @@ use Rattle.asl_run.specs.declared.entries.Entry as code
 use Rattle.asl_run.proofs.Driven.{one_turn_more}
 use Rattle.asl_run.proofs.Turns.{drives_none}
 use Rattle.asl_run.proofs.Stopping.{broken_off_there, stopped_at_end, stopped_unanswered, stopped_when_spent}
-use Rattle.asl_states.specs.Table.{table_view}
+use Rattle.asl_machine_table.specs.Table.{table_view}
 use Rattle.asl_run.proofs.driving.drive.Goals as goal
 
 pub turns-init : goal.turns-init

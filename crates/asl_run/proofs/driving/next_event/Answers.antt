@@ -1,6 +1,6 @@
 use Rattle.std.proofs.Common.{refl, ap, sym, ◌∙◌, subst, List, ℕ}
 use Rattle.asl_model.specs.Run.{activity_at}
-use Rattle.asl_states.specs.Table.{table_view}
+use Rattle.asl_machine_table.specs.Table.{table_view}
 use Rattle.asl_run.specs.Driving.{any_move}
 use Rattle.asl_run.specs.Nodes.{shown_at}
 use Rattle.asl_run.specs.Waiting.{NoneWaitsAt}

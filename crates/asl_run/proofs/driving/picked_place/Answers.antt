@@ -1,6 +1,6 @@
 use Rattle.std.proofs.Common.{arith, subst}
 use Rattle.std.proofs.lemmas.Result.{IfOk-weaker}
-use Rattle.asl_states.specs.Table.{table_view}
+use Rattle.asl_machine_table.specs.Table.{table_view}
 use Rattle.asl_run.specs.Running.{run_view}
 use Rattle.asl_run.proofs.Picked.{found_picked, is_picked, run_goes, some_counted}
 use Rattle.asl_run.proofs.driving.picked_place.Goals as goal

@@ -1,5 +1,5 @@
 use Rattle.std.proofs.Common.{List, map, ◌++◌, ap, sym, ◌∙◌, subst}
-use Rattle.asl_states.specs.Table.{table_view}
+use Rattle.asl_machine_table.specs.Table.{table_view}
 use Rattle.asl_model.specs.Run.{activity_at}
 use Rattle.asl_run.specs.Driving.{ComesNext, IsPicked, IsUnanswered, Pauses, Suits, policy_of, stage_of}
 use Rattle.asl_run.specs.Entries.{entry_view, event_view}

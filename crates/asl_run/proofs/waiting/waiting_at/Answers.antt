@@ -1,5 +1,5 @@
 use Rattle.std.proofs.Common.{ap, sym, ◌∙◌, option_map, refl, inl, inr}
-use Rattle.asl_states.specs.Table.{table_view}
+use Rattle.asl_machine_table.specs.Table.{table_view}
 use Rattle.asl_run.specs.Nodes.{in_table, range_of, shown_at, shown_from}
 use Rattle.asl_run.specs.Standing.{children_of}
 use Rattle.asl_run.proofs.Waits.{node_stands, nothing_stands, task_waits, none_without_place, none_where_ready, none_where_split, none_where_ended, unnamed_waits_nowhere}

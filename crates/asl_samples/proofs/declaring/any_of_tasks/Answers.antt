@@ -1,6 +1,6 @@
 use Rattle.std.proofs.Common.{Some, sym, ap, ◌∙◌}
 use Rattle.asl_records.specs.View.{task_view, tasks_view}
-use Rattle.asl_states.specs.Table.{table_view}
+use Rattle.asl_machine_table.specs.Table.{table_view}
 use Rattle.asl_samples.proofs.Entries.{tasks-more, tasks-passed}
 use Rattle.asl_samples.proofs.declaring.any_of_tasks.Goals as goal
 use Rattle.asl_samples.proofs.declaring.any_of_tasks.Goals.{in-Some+in_ok-name+in_ok-insert, in_default}

@@ -1,5 +1,5 @@
 use Rattle.asl_records.specs.View.{tasks_view}
-use Rattle.asl_states.specs.Table.{table_view}
+use Rattle.asl_machine_table.specs.Table.{table_view}
 use Rattle.asl_samples.specs.Tasks.{AreTasksOf}
 use Rattle.asl_samples.proofs.declaring.any_of_tasks.Given as goal
 

@@ -1,5 +1,5 @@
 use Rattle.std.proofs.Common.{◌≡◌, List, None, ◌+◌, ◌++◌, ◌∙◌, map, sym, ap, subst, arith}
-use Rattle.asl_states.specs.Table.{Shows}
+use Rattle.asl_machine_table.specs.Table.{Shows}
 use Rattle.asl_model.specs.Machine.{Scope}
 use Rattle.asl_model.specs.Run.{outcome_of, start}
 use Rattle.asl_model.specs.TracePrinted.{trace_text}

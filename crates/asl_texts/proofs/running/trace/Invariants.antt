@@ -1,5 +1,5 @@
 use Rattle.std.proofs.Common.{◌≡◌, ℕ, List, None}
-use Rattle.asl_states.specs.Table.{Shows}
+use Rattle.asl_machine_table.specs.Table.{Shows}
 use Rattle.asl_model.specs.Machine.{Scope}
 use Rattle.asl_model.specs.Run.{Action, outcome_of}
 use Rattle.asl_model.specs.Tree.{Tree}

@@ -2,7 +2,7 @@ use Rattle.std.proofs.Common.{◌≡◌, length, arith, sym, ◌∙◌}
 use Rattle.std.proofs.lemmas.Grind.{common_steps}
 use Rattle.std.proofs.lemmas.Option.{gets}
 use Rattle.std.proofs.lemmas.List.{length-map}
-use Rattle.asl_states.specs.Table.{states_in}
+use Rattle.asl_machine_table.specs.Table.{states_in}
 use Rattle.asl_warnings.proofs.LedStates.{led-first, led-on, led-exactly, few-marked}
 use Rattle.asl_warnings.proofs.leading.mark_led.Goals as goal
 

@@ -1,5 +1,5 @@
 use Rattle.std.proofs.Common.{◌≡◌, length}
-use Rattle.asl_states.specs.Table.{states_in}
+use Rattle.asl_machine_table.specs.Table.{states_in}
 use Rattle.asl_warnings.proofs.LedStates.{AreLed}
 use Rattle.asl_warnings.proofs.leading.mark_led.Given as goal
 

@@ -1,6 +1,6 @@
 use Rattle.std.proofs.Common.{sym, subst, []}
 use Rattle.asl_state_edges.specs.View.{step_view}
-use Rattle.asl_states.specs.Table.{table_view}
+use Rattle.asl_machine_table.specs.Table.{table_view}
 use Rattle.asl_ways.proofs.Along.{GoesAlong, along_all, along_none, along_then, step_below}
 use Rattle.asl_ways.proofs.Passing.{none_within, on_within, IsPassedWithin}
 use Rattle.asl_ways.proofs.leaving.push_arrivals.Goals as goal

@@ -1,7 +1,7 @@
 use Rattle.std.proofs.Common.{List, length}
 use Rattle.asl_state_edges.specs.View.{AreStepsBelow}
 use Rattle.asl_model.specs.Shape.{Shape}
-use Rattle.asl_states.specs.Table.{table_view}
+use Rattle.asl_machine_table.specs.Table.{table_view}
 use Rattle.asl_ways.proofs.Along.{GoesAlong}
 use Rattle.asl_ways.proofs.Passing.{IsPassedWithin}
 use Rattle.asl_ways.proofs.leaving.push_arrivals.Given as goal

@@ -1,6 +1,6 @@
 use Rattle.std.proofs.Common.{◌++◌, ◌∷◌, [], map, take, sym, ap, ◌∙◌, subst, append_assoc}
 use Rattle.std.proofs.lemmas.List.{map_more, take_all}
-use Rattle.asl_states.specs.Table.{table_view}
+use Rattle.asl_machine_table.specs.Table.{table_view}
 use Rattle.asl_run.specs.Entries.{entry_view}
 use Rattle.asl_cases.specs.Coverage.{AreFlagsOf, IsCoverageOf}
 use Rattle.asl_cases.proofs.coverage.Coverage.add.Goals as goal

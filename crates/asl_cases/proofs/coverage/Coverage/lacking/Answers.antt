@@ -1,7 +1,7 @@
 use Rattle.std.proofs.Common.{◌≡◌, [], length, sym, subst, Vec, String, Global}
 use Rattle.std.specs.Prelude.{◌↔◌}
 use Rattle.std.proofs.lemmas.Result.{IfOk-weaker}
-use Rattle.asl_states.specs.Table.{table_view}
+use Rattle.asl_machine_table.specs.Table.{table_view}
 use Rattle.asl_cases.specs.Coverage.{AreFlagsOf, IsCovered, lacking}
 use Rattle.asl_cases.proofs.Lacks.{no_line_is_covered}
 use Rattle.asl_cases.proofs.coverage.Coverage.lacking.Goals as goal

@@ -2,7 +2,7 @@ use Rattle.std.proofs.Common.{codes, option_map, ap, ◌∙◌}
 use Rattle.asl_model.specs.Certificate.{Certificate}
 use Rattle.asl_model.specs.Finding.{StartInput, breach_unless_sub}
 use Rattle.asl_numbered.specs.Expansion.{shape_at}
-use Rattle.asl_states.specs.Table.{table_view}
+use Rattle.asl_machine_table.specs.Table.{table_view}
 use Rattle.asl_shape.specs.View.{view}
 use Rattle.asl_check.specs.Rules.{inputs_in}
 use Rattle.asl_check.proofs.FlowsTold.{same_listed}

@@ -1,5 +1,5 @@
 use Rattle.std.proofs.Common.{Some, None, true, false, is_some, refl, ap, sym, ◌∙◌}
-use Rattle.asl_states.specs.Table.{table_view}
+use Rattle.asl_machine_table.specs.Table.{table_view}
 use Rattle.asl_check.proofs.Below.{entry_below}
 use Rattle.asl_check.proofs.LookedUp.{input_looked_up}
 use Rattle.asl_check.proofs.checker.Checker.input_to_compare.Goals as goal

@@ -1,5 +1,5 @@
 use Rattle.std.proofs.Common.{◌-◌, List, length}
-use Rattle.asl_states.specs.Table.{table_view}
+use Rattle.asl_machine_table.specs.Table.{table_view}
 use Rattle.asl_model.specs.Shape.{Shape}
 use Rattle.asl_records.specs.View.{declared_view}
 use Rattle.asl_check.specs.Numbers.{certificate_of}

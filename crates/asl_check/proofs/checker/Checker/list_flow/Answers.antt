@@ -2,7 +2,7 @@ use Rattle.std.proofs.Common.{List, Some, None, sym, ap, subst}
 use Rattle.std.specs.Prelude.{OnOk}
 use Rattle.asl_model.specs.Finding.{Breach, flow_breaches, found_at, surrounded_by, where_certified}
 use Rattle.asl_states.specs.Machine.{kind_view, scope_view, settings_view}
-use Rattle.asl_states.specs.Table.{table_view}
+use Rattle.asl_machine_table.specs.Table.{table_view}
 use Rattle.asl_records.specs.View.{declared_view}
 use Rattle.asl_check.specs.Listing.{Adds}
 use Rattle.asl_check.specs.Numbers.{certificate_of}

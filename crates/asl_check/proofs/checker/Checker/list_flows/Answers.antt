@@ -3,7 +3,7 @@ use Rattle.asl_model.specs.Certificate.{Certificate}
 use Rattle.asl_model.specs.Finding.{found_at}
 use Rattle.asl_numbered.specs.Expansion.{Keeps}
 use Rattle.asl_numbered.specs.Laws.{keeps_same, keeps_trans}
-use Rattle.asl_states.specs.Table.{table_view}
+use Rattle.asl_machine_table.specs.Table.{table_view}
 use Rattle.asl_records.specs.View.{declared_view}
 use Rattle.asl_check.specs.Checking.{row_view}
 use Rattle.asl_check.specs.Listing.{Adds}

@@ -1,6 +1,6 @@
 use Rattle.std.proofs.Common.{◌-◌, length}
 use Rattle.asl_numbered.specs.Expansion.{Keeps}
-use Rattle.asl_states.specs.Table.{table_view}
+use Rattle.asl_machine_table.specs.Table.{table_view}
 use Rattle.asl_records.specs.View.{declared_view}
 use Rattle.asl_check.specs.Numbers.{certificate_of}
 use Rattle.asl_check.specs.Rules.{flow_rules, found_in, found_from, found_in_all, row_at}

@@ -1,7 +1,7 @@
 use Rattle.std.proofs.Common.{subst}
 use Rattle.std.proofs.lemmas.Result.{on_ok_weaker}
 use Rattle.asl_model.specs.Finding.{found_at}
-use Rattle.asl_states.specs.Table.{table_view}
+use Rattle.asl_machine_table.specs.Table.{table_view}
 use Rattle.asl_records.specs.View.{declared_view}
 use Rattle.asl_check.specs.Listing.{Adds}
 use Rattle.asl_check.specs.Numbers.{certificate_of}

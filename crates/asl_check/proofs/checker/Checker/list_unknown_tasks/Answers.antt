@@ -1,6 +1,6 @@
 use Rattle.std.proofs.Common.{codes, map, length, option_map, option_to_list, string_bytes, ap, ◌∙◌}
 use Rattle.asl_model.specs.Finding.{TaskUnknown, breach_unless}
-use Rattle.asl_states.specs.Table.{table_view}
+use Rattle.asl_machine_table.specs.Table.{table_view}
 use Rattle.asl_check.specs.Faults.{fault_view}
 use Rattle.asl_check.specs.Rules.{found_by, task_rule}
 use Rattle.asl_check.proofs.Passes.{all_left, left_named, left_none}

@@ -1,6 +1,6 @@
 use Rattle.std.proofs.Common.{List, map, string_bytes}
 use Rattle.std.specs.BTreeMap.{keys}
-use Rattle.asl_states.specs.Table.{table_view}
+use Rattle.asl_machine_table.specs.Table.{table_view}
 use Rattle.asl_model.specs.Shape.{Shape}
 use Rattle.asl_check.specs.Rules.{found_by, task_rule}
 use Rattle.asl_check.proofs.Passes.{AreLeft}

@@ -6,7 +6,7 @@ use Rattle.asl_state_edges.specs.Entry.{entry_view}
 use Rattle.asl_state_edges.specs.declared.found.Entry.{Entry}
 use Rattle.asl_state_edges.specs.View.{steps_of}
 use Rattle.asl_states.specs.Machine.{kind_view, scope_view, settings_view}
-use Rattle.asl_states.specs.Table.{table_view}
+use Rattle.asl_machine_table.specs.Table.{table_view}
 use Rattle.asl_records.specs.Numbered.{numbers_view}
 use Rattle.asl_records.specs.View.{declared_view}
 use Rattle.asl_check.specs.Numbers.{certificate_of}

@@ -1,6 +1,6 @@
 use Rattle.std.proofs.Common.{ap, ◌∙◌, sym, subst}
 use Rattle.asl_draft_laws.specs.Drafts.{certificate_of}
-use Rattle.asl_states.specs.Table.{table_view}
+use Rattle.asl_machine_table.specs.Table.{table_view}
 use Rattle.asl_drafts.specs.Certified.{AreCertified}
 use Rattle.asl_records.specs.declared.records.NumberedCertificate.{NumberedCertificate}
 use Rattle.asl_drafts.proofs.Certified.{certificate-same, certificate-shallow, certificate-within}

@@ -1,5 +1,5 @@
 use Rattle.std.proofs.Common.{ap₂}
-use Rattle.asl_states.specs.Table.{table_view}
+use Rattle.asl_machine_table.specs.Table.{table_view}
 use Rattle.asl_drafts.proofs.DraftViews.{are-new, draft_of, entries-new, never-new}
 use Rattle.asl_drafts.proofs.Grown.{never_grown}
 use Rattle.asl_drafts.proofs.draft.Draft.new.Goals as goal

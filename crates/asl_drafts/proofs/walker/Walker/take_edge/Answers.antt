@@ -1,7 +1,7 @@
 use Rattle.std.proofs.Common.{◌≡◌, Some, None, option_map, refl, sym, ap, ◌∙◌}
 use Rattle.asl_draft_laws.specs.Drafts as model
 use Rattle.asl_state_edges.specs.View.{destination_view, edge_view}
-use Rattle.asl_states.specs.Table.{table_view}
+use Rattle.asl_machine_table.specs.Table.{table_view}
 use Rattle.asl_drafts.specs.Drafted.{target_view}
 use Rattle.asl_drafts.specs.declared.walker.Walker.{Walker}
 use Rattle.asl_drafts.proofs.Leading.{edge-rests, none-rests}

@@ -1,5 +1,5 @@
 use Rattle.asl_state_edges.specs.View.{step_view}
-use Rattle.asl_states.specs.Table.{table_view}
+use Rattle.asl_machine_table.specs.Table.{table_view}
 use Rattle.asl_drafts.proofs.Underway.{nothing-taken}
 use Rattle.asl_drafts.proofs.walker.Walker.take_step.Goals as goal
 

@@ -3,7 +3,7 @@ use Rattle.asl_numbered.specs.Laws.{keeps_longer}
 use Rattle.asl_draft_laws.specs.Drafts.{step_taken}
 use Rattle.asl_state_edges.specs.View.{step_view, steps_of}
 use Rattle.asl_state_edges.specs.declared.found.Step.{Step}
-use Rattle.asl_states.specs.Table.{table_view}
+use Rattle.asl_machine_table.specs.Table.{table_view}
 use Rattle.asl_drafts.specs.Drafted.{draft_view, room}
 use Rattle.asl_drafts.specs.Entries.{Makes}
 use Rattle.asl_drafts.specs.Underway.{StepsOn}

@@ -1,5 +1,5 @@
 use Rattle.asl_state_edges.specs.View.{steps_of}
-use Rattle.asl_states.specs.Table.{table_view}
+use Rattle.asl_machine_table.specs.Table.{table_view}
 use Rattle.asl_drafts.proofs.Leading.{first_steps}
 use Rattle.asl_drafts.proofs.Underway.{HasWalked}
 use Rattle.asl_drafts.proofs.walker.Walker.take_steps.Given as goal

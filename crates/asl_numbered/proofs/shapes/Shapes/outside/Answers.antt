@@ -1,5 +1,5 @@
 use Rattle.std.proofs.Common.{length}
-use Rattle.asl_numbered.specs.Expansion.{expansions, shape_at}
+use Rattle.asl_numbered.specs.Expansion.{shape_at}
 use Rattle.asl_numbered.proofs.Comparisons.{both_within}
 use Rattle.asl_numbered.proofs.Stepping.{told_outside, told_inside}
 use Rattle.asl_numbered.proofs.shapes.Shapes.outside.Goals as goal
@@ -11,8 +11,8 @@ outside-requires-clause-sought c =
 
 pub returns-then-outer-len-clause-outside : goal.returns-then-outer-len-clause-outside
 returns-then-outer-len-clause-outside c =
-    rw (← c.self.view_is) (told_outside (shape_at (expansions c.self.inside.table) c.args.inner) (shape_at (expansions c.self.inside.table) c.args.outer) c.outside.result (c.are_proper.ensures.proper c.args.inner) c.sub_is_exactly_inside.ensures.outside c.outside.ensures.as_defined)
+    rw (← c.self.view_is) (told_outside (shape_at c.self.inside.table c.args.inner) (shape_at c.self.inside.table c.args.outer) c.outside.result (c.are_proper.ensures.proper c.args.inner) c.sub_is_exactly_inside.ensures.outside c.outside.ensures.as_defined)
 
 pub returns-then-outer-len-clause-none : goal.returns-then-outer-len-clause-none
 returns-then-outer-len-clause-none c =
-    rw (← c.self.view_is) (told_inside (shape_at (expansions c.self.inside.table) c.args.inner) (shape_at (expansions c.self.inside.table) c.args.outer) c.args.inner c.args.outer (length (expansions c.self.inside.table)) (length (expansions c.self.inside.table)) c.outside.result c.sub_is_exactly_inside.ensures.exactly c.sub_means_inside.ensures.inside c.outside.ensures.as_defined)
+    rw (← c.self.view_is) (told_inside (shape_at c.self.inside.table c.args.inner) (shape_at c.self.inside.table c.args.outer) c.args.inner c.args.outer (length c.self.inside.table) (length c.self.inside.table) c.outside.result c.sub_is_exactly_inside.ensures.exactly c.sub_means_inside.ensures.inside c.outside.ensures.as_defined)

@@ -1,10 +1,10 @@
 use Rattle.asl_numbered.proofs.Comparisons.{right_kept}
 use Rattle.asl_numbered.proofs.Joins.{joins_kept}
-use Rattle.asl_numbered.proofs.Readings.{given_nodes}
+use Rattle.asl_numbered.proofs.Readings.{given_below}
 use Rattle.asl_numbered.proofs.shapes.Shapes.read_spelled.Goals as goal
 
 pub read-answer-requires : goal.read-answer-requires
-read-answer-requires c = given_nodes c.self.inside.table c.args.given (rw c.self.view_is c.requires.given)
+read-answer-requires c = given_below _ c.args.given (rw c.self.view_is c.requires.given)
 
 pub invariant_of-self : goal.invariant_of-self
 invariant_of-self c = (

@@ -1,8 +1,7 @@
-use Rattle.std.proofs.Common.{◌≡◌, Some, option_map, slice_get, sym, ap, ◌∙◌}
-use Rattle.std.proofs.lemmas.Option.{slice_get-map}
+use Rattle.std.proofs.Common.{◌≡◌, Some, slice_get, sym}
 use Rattle.asl_numbered.specs.declared.node.Node.{Node}
 use Rattle.asl_numbered.specs.declared.table.Facts.{Facts}
-use Rattle.asl_numbered.proofs.Tables.{key_of, keys_counted, entry_level}
+use Rattle.asl_numbered.proofs.Tables.{shapes_length, entry_level}
 use Rattle.asl_numbered.proofs.table.Table.node.Goals as goal
 
 pub returns-in-Some : goal.returns-in-Some
@@ -10,9 +9,9 @@ returns-in-Some c =
     let es = c.self.inside.nodes.entries in
     let e : Node × Facts = (c.in-Some.entry.0.now, c.in-Some.entry.1.now) in
     let at : slice_get es c.args.number ≡ Some e = sym c.in-Some.ensures.entry in
-    rw (← c.self.view_is) (record { exactly = sym (key_of es c.args.number e at); there = rw (keys_counted es) c.in-Some.ensures.found; level = sym (entry_level es c.args.number e c.self.invariant at); earlier = c.self.invariant.earlier c.args.number e at; proper = c.self.invariant.proper c.args.number e at })
+    rw (← c.self.view_is) (record { there = rw (shapes_length es) c.in-Some.ensures.found; level = sym (entry_level es c.args.number e c.self.invariant at); earlier = c.self.invariant.earlier c.args.number e at; proper = c.self.invariant.proper c.args.number e at })
 
 pub returns-in-None : goal.returns-in-None
 returns-in-None c =
     let es = c.self.inside.nodes.entries in
-    rw (← c.self.view_is) (record { exactly = sym (slice_get-map (λ e. e.0) es c.args.number ∙ ap (option_map (λ e. e.0)) (sym c.in-None.ensures.entry)); there = rw (keys_counted es) c.in-None.ensures.found; level = tt; earlier = tt; proper = tt })
+    rw (← c.self.view_is) (record { there = rw (shapes_length es) c.in-None.ensures.found; level = tt; earlier = tt; proper = tt })

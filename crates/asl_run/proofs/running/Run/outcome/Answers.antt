@@ -1,5 +1,5 @@
 use Rattle.std.proofs.Common.{inl, inr, List, ap, sym, ◌∙◌, slice_get}
-use Rattle.asl_states.specs.Table.{table_view}
+use Rattle.asl_machine_table.specs.Table.{table_view}
 use Rattle.asl_model.specs.Run.{outcome_of}
 use Rattle.asl_run.specs.Nodes.{shown_at}
 use Rattle.asl_run.specs.declared.nodes.Node.{Node}

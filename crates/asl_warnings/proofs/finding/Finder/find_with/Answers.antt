@@ -1,6 +1,6 @@
 use Rattle.std.proofs.Common.{◌≡◌, length, arith, ◌∙◌}
 use Rattle.std.proofs.lemmas.List.{length-map}
-use Rattle.asl_states.specs.Table.{states_in}
+use Rattle.asl_machine_table.specs.Table.{states_in}
 use Rattle.asl_warnings.specs.Notices.{unled_in}
 use Rattle.asl_warnings.proofs.Told.{tells-all, tells-more}
 use Rattle.asl_warnings.proofs.finding.Finder.find_with.Goals as goal

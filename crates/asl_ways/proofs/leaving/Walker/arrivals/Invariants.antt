@@ -1,6 +1,6 @@
 use Rattle.std.proofs.Common.{◌≡◌, ◌++◌, [], length}
 use Rattle.asl_numbered.specs.Expansion.{Keeps}
-use Rattle.asl_states.specs.Table.{table_view}
+use Rattle.asl_machine_table.specs.Table.{table_view}
 use Rattle.asl_ways.specs.Adding.{Adds}
 use Rattle.asl_ways.specs.Coming.{leaves_first, starts}
 use Rattle.asl_ways.specs.Given.{given_in}

@@ -2,8 +2,7 @@
 
 ghost use Rattle.std.specs.Prelude.{◌≡◌, length, option_map, slice_get, position, bytes_eq, map, string_bytes};
 
-use crate::finding::find_all;
-use crate::states::{Scope, State};
+use asl_states::{Scope, State, find_all};
 use indexmap::IndexSet;
 
 /// A state machine: all its states in one table.
@@ -19,7 +18,7 @@ pub struct Machine {
 
 impl Machine {
     ghost use Rattle.asl_states.specs.Machine.{state_view, scope_view};
-    ghost use Rattle.asl_states.specs.Table.{StatesAreNumbered, states_in, table_view};
+    ghost use Rattle.asl_machine_table.specs.Table.{StatesAreNumbered, states_in, table_view};
 
     /// A machine of those names and states by number, each with the scope that it stands in. The states that fields
     /// name get their numbers.

@@ -3,7 +3,7 @@ use Rattle.std.specs.Prelude.{◌≡◌, List, map, string_bytes}
 use Rattle.std.specs.List.{All}
 use Rattle.asl_model.specs.Machine.{Scope}
 use Rattle.asl_model.specs.Numbering.{Table, table_of, IsWellNamed}
-use Rattle.asl_states.specs.declared.machine.Machine.{Machine}
+use Rattle.asl_machine_table.specs.declared.machine.Machine.{Machine}
 use Rattle.asl_states.specs.declared.states.State.{State}
 use Rattle.asl_states.specs.Machine.{state_view, scope_view}
 use Rattle.asl_states.specs.Numbered.{AreNumbered}
