@@ -17,7 +17,6 @@ use Rattle.asl_model.proofs.ShapeExample.{proper-ordered}
 use Rattle.asl_model.specs.ShapeOrder.{sub, simple_sub, arrays_sub, objects_sub, elements_sub, fields_sub, each_shape, others_never_there, mention_of, mention_fits, takes_all}
 use Rattle.asl_tree.specs.declared.OutOfMemory.{OutOfMemory}
 use Rattle.asl_shape.proofs.Lookups.{same_name, picked}
-use Rattle.asl_numbered.specs.declared.node.Node.{Node}
 use Rattle.asl_numbered.specs.declared.kinds.NodeKinds.{NodeKinds}
 use Rattle.asl_numbered.specs.declared.kinds.NodeArrays.{NodeArrays}
 use Rattle.asl_numbered.specs.declared.kinds.NodeObjects.{NodeObjects}

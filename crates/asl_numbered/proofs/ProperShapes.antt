@@ -10,7 +10,7 @@ use Rattle.asl_numbered.specs.declared.node.Node.TheVariants.{Any, Never, Null, 
 use Rattle.asl_numbered.specs.declared.node.NodeField.{NodeField}
 use Rattle.asl_numbered.specs.declared.table.Facts.{Facts}
 use Rattle.asl_numbered.specs.Expansion.{shape_at, shapes_at, fields_at, shape_over, expansions_after}
-use Rattle.asl_numbered.specs.Table.{AreFieldsInOrder, HasFieldsInOrder, IsTable}
+use Rattle.asl_numbered.specs.Table.{AreFieldsInOrder, HasFieldsInOrder, IsTable, shapes_in}
 
 -- the shapes of all numbers are proper
 abbrev AreProper : List model.Shape → Type 0

@@ -22,7 +22,6 @@ use Rattle.asl_tree.specs.declared.Tree.{Tree}
 use Rattle.asl_numbered.specs.declared.finding.Found.{Found}
 use Rattle.asl_numbered.specs.declared.finding.Sought.{Sought}
 use Rattle.asl_numbered.specs.declared.finding.Step.{Step}
-use Rattle.asl_numbered.specs.declared.node.Node.{Node}
 use Rattle.asl_numbered.specs.declared.node.NodeField.{NodeField}
 use Rattle.asl_numbered.specs.Examples.{examples_at}
 use Rattle.asl_numbered.specs.Expansion.{fields_at, AreBelow}

@@ -8,8 +8,6 @@ use Rattle.asl_shape.specs.Kinds.{arrays_view, objects_view}
 use Rattle.asl_shape.specs.View.{view, shapes_view, fields_view}
 use Rattle.asl_shape.proofs.Depths.{place_depth, entry_depth}
 use Rattle.asl_shape.proofs.Spellings.{Mention}
-use Rattle.asl_numbered.specs.declared.node.Node.TheVariants.{List as Elements, Object}
-use Rattle.asl_numbered.specs.Expansion.{RefersBelow}
 use Rattle.asl_numbered.specs.TakenApart.{HasArraysAt, HasObjectsAt}
 use Rattle.asl_numbered.proofs.Growing.{number_step, numbers_end, field_step, numbered_list_refers, numbered_object_refers, arrays_added, objects_added}
 use Rattle.asl_numbered.proofs.adding.+add.Goals as goal

@@ -9,7 +9,7 @@ use Rattle.asl_tree.specs.declared.Tree.{Tree}
 use Rattle.asl_shape.specs.LevelView.{level_view, list_view, object_view, texts}
 use Rattle.asl_shape.specs.Spelled as trees
 use Rattle.asl_shape.proofs.Sizes.{level_size, list_size, smaller, element_smaller, member_smaller}
-use Rattle.asl_numbered.specs.Expansion.{fields_at, numbers_in, AreBelow, AreFieldsOf}
+use Rattle.asl_numbered.specs.Expansion.{fields_at, AreFieldsOf}
 use Rattle.asl_model.specs.ShapeSpelling.{with_all_needed}
 use Rattle.asl_numbered.specs.declared.kinds.KindNumbers.{KindNumbers}
 use Rattle.asl_numbered.specs.declared.node.NodeField.{NodeField}
