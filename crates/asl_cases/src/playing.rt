@@ -1,14 +1,13 @@
 //! Playing a case: a machine runs on its input, with its answers.
 
 ghost use Rattle.std.specs.Prelude.{◌≡◌, map, option_and_then, option_map, IfOk};
-ghost use Rattle.asl_machine_table.specs.Table.{Shows};
+ghost use Rattle.asl_machine_table.specs.Table.{scope_in};
 ghost use Rattle.asl_model.specs.Certificate.{gives_of};
-ghost use Rattle.asl_model.specs.Machine.{Scope};
 ghost use Rattle.asl_model.specs.Run as model;
 ghost use Rattle.asl_model.specs.Shape.{has as has_shape};
 ghost use Rattle.asl_records.specs.View.{declared_view};
 ghost use Rattle.asl_run.specs.Entries.{answer_view, entry_view, event_view, outcome_view};
-ghost use Rattle.asl_run.specs.Running.{IsRunOf, run_view};
+ghost use Rattle.asl_run.specs.Running.{run_view, scope_of};
 ghost use Rattle.asl_suites.specs.View.{answers_under};
 ghost use Rattle.asl_tree.specs.View.{view};
 ghost use Rattle.asl_cases.specs.Asking.{last_of};
@@ -103,8 +102,7 @@ pub fn play<'m>(
     max_steps: u64,
 ) -> Result<Played<'m>, OutOfMemory>
     ensures { let shapes = option_map (λ d. declared_view d.now) declared.entry in
-        (m : Scope) → Shows machine.now m
-        → let given = case_of m shapes (view input) (answers_under answers.old) in
+        let given = case_of (scope_in machine.now) shapes (view input) (answers_under answers.old) in
         IfOk result (λ played. ComesTo given max_steps played.end
         (map entry_view played.trace.items) (answers_under answers.new)) }
 {
@@ -128,8 +126,7 @@ fn play_run<'m>(
     max_steps: u64,
 ) -> Result<Played<'m>, OutOfMemory>
     ensures { let shapes = option_map (λ d. declared_view d.now) declared.entry in
-        (m : Scope) → Shows machine.now m
-        → let given = case_of m shapes (view input) (answers_under answers.old) in
+        let given = case_of (scope_in machine.now) shapes (view input) (answers_under answers.old) in
         IfOk result (λ played. IsRun given max_steps played.end
         (map entry_view played.trace.items) (answers_under answers.new)) }
 {
@@ -170,12 +167,13 @@ fn take_step<'m>(
     answers: &mut CaseAnswers,
     trace: &mut Vec<Entry<'m>>,
 ) -> Result<Option<End>, OutOfMemory>
-    ensures run { (m : Scope) → IsRunOf m run.old → IsRunOf m run.new }
+    requires machine { run.old.machine ≡ machine.now }
+    ensures machine { run.new.machine ≡ run.old.machine }
     ensures steps { let shapes = option_map (λ d. declared_view d.now) declared.entry in
         let before = stage_of (run_view run.old) (answers_under answers.old)
         (map entry_view trace.old.items) in
-        (m : Scope) → Shows machine.now m → IsRunOf m run.old → IsGoing m before
-        → IfOk result (λ end. StepsTo m shapes before end (stage_of (run_view run.new)
+        IsGoing (scope_of run.old) before
+        → IfOk result (λ end. StepsTo (scope_of run.old) shapes before end (stage_of (run_view run.new)
         (answers_under answers.new) (map entry_view trace.new.items))) }
 {
     let mut silent = ListAnswers::new(VecDeque::new(alloc));
@@ -202,14 +200,16 @@ fn answer<'m>(
     trace: &mut Vec<Entry<'m>>,
     state: usize,
 ) -> Result<Option<End>, OutOfMemory>
-    ensures run { (m : Scope) → IsRunOf m run.old → IsRunOf m run.new }
+    requires machine { run.old.machine ≡ machine.now }
+    ensures machine { run.new.machine ≡ run.old.machine }
     ensures steps { let shapes = option_map (λ d. declared_view d.now) declared.entry in
         let before = stage_of (run_view run.old) (answers_under answers.old)
         (map entry_view trace.old.items) in
-        (m : Scope) → Shows machine.now m → IsRunOf m run.old → IsAsked m before state
-        → IfOk result (λ end. StepsTo m shapes before end (stage_of (run_view run.new)
+        IsAsked (scope_of run.old) before state
+        → IfOk result (λ end. StepsTo (scope_of run.old) shapes before end (stage_of (run_view run.new)
         (answers_under answers.new) (map entry_view trace.new.items))) }
 {
+    run.stands();
     let place = Vec::from_slice(alloc, asked_place(trace))?;
     let name = machine.name(state).unwrap_or("");
     let item = item_at(machine, state, &place);
@@ -242,9 +242,8 @@ fn take_answer<'m>(
     event: Event,
     trace: &mut Vec<Entry<'m>>,
 ) -> Result<Option<End>, OutOfMemory>
-    ensures run { (m : Scope) → IsRunOf m run.old → IsRunOf m run.new }
-    ensures taken { (m : Scope) → IsRunOf m run.old
-        → IfOk result (λ end. TakesSo m (run_view run.old) (event_view event)
+    ensures machine { run.new.machine ≡ run.old.machine }
+    ensures taken { IfOk result (λ end. TakesSo (scope_of run.old) (run_view run.old) (event_view event)
         (map entry_view trace.old.items) end (run_view run.new)
         (map entry_view trace.new.items)) }
 {

@@ -1,3 +1,4 @@
+pub mod Checked
 pub mod Checking
 pub mod Faults
 pub mod Listing

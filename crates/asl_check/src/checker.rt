@@ -2,14 +2,14 @@
 
 ghost use Rattle.std.specs.Prelude.{◌≡◌, ◌↔◌, IfOk, IsSome};
 ghost use Rattle.std.specs.List.{All};
-ghost use Rattle.asl_model.specs.Machine as machines;
 ghost use Rattle.asl_model.specs.RecordShapes.{HoldsForCertificate, HoldsForDeclared};
 ghost use Rattle.asl_model.specs.Shape as model;
 ghost use Rattle.asl_model.specs.Verdict.{IsRight};
 ghost use Rattle.asl_numbered.specs.Expansion.{Keeps};
-ghost use Rattle.asl_machine_table.specs.Table.{Shows, table_view};
+ghost use Rattle.asl_machine_table.specs.Table.{scope_in, table_view};
 ghost use Rattle.asl_records.specs.Numbered.{AreWithin, numbered_view};
-ghost use Rattle.asl_records.specs.View.{declared_view, certificate_view};
+ghost use Rattle.asl_records.specs.View.{declared_view};
+ghost use Rattle.asl_check.specs.Checked.{IsOfFirst, IsVerdict};
 ghost use Rattle.asl_check.specs.Numbers.{IsWithin, certificate_of};
 ghost use Rattle.asl_check.specs.Told.{listed, TellsFirst};
 ghost use Rattle.asl_check.specs.View.{findings_of, verdict_view, IsLocated, TellsMissing};
@@ -54,12 +54,8 @@ pub fn check(
     declared: &Declared,
     certificate: &Certificate,
 ) -> Result<Verdict, OutOfMemory>
-    ensures verdict { IfOk result (λ verdict. (m : machines.Scope) → Shows machine.now m
-        → IsRight m (declared_view declared.now) (certificate_view certificate.now)
-        (verdict_view verdict)) }
-    ensures first { IfOk result (λ verdict. TellsFirst
-        (listed (table_view machine.now) (declared_view declared.now)
-        (certificate_view certificate.now)) (verdict_view verdict)) }
+    ensures verdict { IfOk result (IsVerdict machine.now declared.now certificate.now) }
+    ensures first { IfOk result (IsOfFirst machine.now declared.now certificate.now) }
 {
     let mut numbered = number_certificate(alloc, certificate)?;
     check_numbered(alloc, machine, declared, &mut numbered)
@@ -74,9 +70,8 @@ pub fn check_numbered(
     certificate: &mut NumberedCertificate,
 ) -> Result<Verdict, OutOfMemory>
     requires within { AreWithin certificate.old }
-    ensures verdict { IfOk result (λ verdict. (m : machines.Scope) → Shows machine.now m
-        → IsRight m (declared_view declared.now) (numbered_view certificate.old)
-        (verdict_view verdict)) }
+    ensures verdict { IfOk result (λ verdict. IsRight (scope_in machine.now)
+        (declared_view declared.now) (numbered_view certificate.old) (verdict_view verdict)) }
     ensures first { IfOk result (λ verdict. TellsFirst
         (listed (table_view machine.now) (declared_view declared.now)
         (numbered_view certificate.old)) (verdict_view verdict)) }
@@ -113,8 +108,8 @@ pub fn find_all(
         ≡ listed (table_view machine.now) (declared_view declared.now)
         (numbered_view certificate.old)) }
     ensures located { IfOk result (λ all. All IsLocated all.items) }
-    ensures exactly { IfOk result (λ all. (m : machines.Scope) → Shows machine.now m
-        → All (λ f. IsSome f.path ↔ TellsMissing f.finding) all.items) }
+    ensures exactly { IfOk result
+        (λ all. All (λ f. IsSome f.path ↔ TellsMissing f.finding) all.items) }
     ensures same { numbered_view certificate.new ≡ numbered_view certificate.old }
     ensures within { AreWithin certificate.new }
     ensures keeps { Keeps certificate.old.shapes certificate.new.shapes }
@@ -141,10 +136,11 @@ impl Checker<'_> {
             ≡ listed (table_view self.now.machine.now) (declared_view self.now.declared.now)
             (certificate_of shapes.old self.now)) }
         ensures located { IfOk result (λ all. All IsLocated all.items) }
-        ensures exactly { IfOk result (λ all. (m : machines.Scope) → Shows self.now.machine.now m
-            → All (λ f. IsSome f.path ↔ TellsMissing f.finding) all.items) }
+        ensures exactly { IfOk result
+            (λ all. All (λ f. IsSome f.path ↔ TellsMissing f.finding) all.items) }
         ensures keeps { Keeps shapes.old shapes.new }
     {
+        self.machine.is_shown();
         findings_are_exactly_the_broken_rules();
         let rules = self.list_all(shapes)?;
         tell_each(self.alloc, shapes, &rules)
@@ -153,14 +149,15 @@ impl Checker<'_> {
     /// The verdict on what is checked.
     fn verdict(&self, shapes: &mut Shapes) -> Result<Verdict, OutOfMemory>
         requires within { IsWithin shapes.old self.now }
-        ensures verdict { IfOk result (λ verdict. (m : machines.Scope)
-            → Shows self.now.machine.now m → IsRight m (declared_view self.now.declared.now)
-            (certificate_of shapes.old self.now) (verdict_view verdict)) }
+        ensures verdict { IfOk result (λ verdict. IsRight (scope_in self.now.machine.now)
+            (declared_view self.now.declared.now) (certificate_of shapes.old self.now)
+            (verdict_view verdict)) }
         ensures first { IfOk result (λ verdict. TellsFirst
             (listed (table_view self.now.machine.now) (declared_view self.now.declared.now)
             (certificate_of shapes.old self.now)) (verdict_view verdict)) }
         ensures keeps { Keeps shapes.old shapes.new }
     {
+        self.machine.is_shown();
         findings_are_exactly_the_broken_rules();
         let rules = self.list_all(shapes)?;
         if rules.is_empty() {

@@ -1,8 +1,7 @@
 //! From texts to explanations.
 
 ghost use Rattle.std.specs.Prelude.{◌≡◌, ◌↔◌, IfErr, IfNone, IfOk, IfSome, None, Ok};
-ghost use Rattle.asl_machine_table.specs.Table.{Shows};
-ghost use Rattle.asl_model.specs.Machine.{Scope};
+ghost use Rattle.asl_machine_table.specs.Table.{scope_in};
 ghost use Rattle.asl_model.specs.Names.{Bytes};
 ghost use Rattle.asl_model.specs.Numbering.{table_of};
 ghost use Rattle.asl_infer.specs.Lenient.{NeverSettlesLeniently};
@@ -123,12 +122,12 @@ fn find_known<'s>(
     subject: &'s Subject,
     max_rounds: u32,
 ) -> Result<Option<Known<'s>>, OutOfMemory>
-    ensures settled { IfOk result (λ found. (m : Scope) → Shows subject.now.machine m
-        → IfSome found (λ _.
-        SettlesLeniently (table_of m) (declared_view subject.now.declared) max_rounds)) }
-    ensures unsettled { IfOk result (λ found. (m : Scope) → Shows subject.now.machine m
-        → IfNone found
-        (NeverSettlesLeniently (table_of m) (declared_view subject.now.declared) max_rounds)) }
+    ensures settled { let table = table_of (scope_in subject.now.machine) in
+        IfOk result (λ found. IfSome found
+        (λ _. SettlesLeniently table (declared_view subject.now.declared) max_rounds)) }
+    ensures unsettled { let table = table_of (scope_in subject.now.machine) in
+        IfOk result (λ found. IfNone found
+        (NeverSettlesLeniently table (declared_view subject.now.declared) max_rounds)) }
 {
     let machine = &subject.machine;
     let declared = &subject.declared;
@@ -148,6 +147,7 @@ fn explain_state(
     ensures { (definition declared : Bytes) → Describes definition declared subject.now
         → IfOk result (ExplainsState max_rounds definition declared name.now) }
 {
+    subject.machine.is_shown();
     let Some(state) = subject.machine.state_named(name) else {
         return Ok(Explained::NoSuchState);
     };

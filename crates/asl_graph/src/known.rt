@@ -1,9 +1,8 @@
 //! What is known of a machine under declared shapes.
 
 ghost use Rattle.std.specs.Prelude.{IfNone, IfOk, IfSome};
-ghost use Rattle.asl_model.specs.Machine.{Scope};
 ghost use Rattle.asl_model.specs.Numbering.{table_of};
-ghost use Rattle.asl_machine_table.specs.Table.{Shows};
+ghost use Rattle.asl_machine_table.specs.Table.{scope_in};
 ghost use Rattle.asl_infer.specs.Lenient.{NeverSettlesLeniently};
 ghost use Rattle.asl_records.specs.Numbered.{AreWithin};
 ghost use Rattle.asl_records.specs.View.{declared_view};
@@ -37,12 +36,11 @@ impl Known {
         with_shapes: bool,
         max_rounds: u32,
     ) -> Result<Option<Known>, OutOfMemory>
-        ensures settled { IfOk result (λ known. (m : Scope) → Shows machine.now m
-            → IfSome known (λ _.
-            Settles (table_of m) (declared_view declared.now) max_rounds)) }
-        ensures unsettled { IfOk result (λ known. (m : Scope) → Shows machine.now m
-            → IfNone known
-            (NeverSettlesLeniently (table_of m) (declared_view declared.now) max_rounds)) }
+        ensures settled { let table = table_of (scope_in machine.now) in IfOk result
+            (λ known. IfSome known (λ _. Settles table (declared_view declared.now) max_rounds)) }
+        ensures unsettled { let table = table_of (scope_in machine.now) in IfOk result
+            (λ known. IfNone known
+            (NeverSettlesLeniently table (declared_view declared.now) max_rounds)) }
     {
         let Some(mut certificate) = infer_leniently(alloc, machine, declared, max_rounds)? else {
             return Ok(None);

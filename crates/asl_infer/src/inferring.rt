@@ -7,19 +7,19 @@ ghost use Rattle.asl_model.specs.Certificate as certificates;
 ghost use Rattle.asl_model.specs.Certificate.{IsClosed};
 ghost use Rattle.asl_model.specs.Finding as findings;
 ghost use Rattle.asl_model.specs.Json.{value_of};
-ghost use Rattle.asl_model.specs.Machine as machines;
 ghost use Rattle.asl_model.specs.Numbering.{IsWellNamed, table_of};
 ghost use Rattle.asl_model.specs.RecordShapes.{HoldsForCertificate};
 ghost use Rattle.asl_model.specs.Shape.{IsOrdered};
 ghost use Rattle.asl_model.specs.Written.{written_certificate};
 ghost use Rattle.asl_draft_laws.specs.Drafts.{IsInferred, IsTold, first_draft};
-ghost use Rattle.asl_machine_table.specs.Table.{Shows, table_view};
+ghost use Rattle.asl_machine_table.specs.Table.{scope_in, table_view};
 ghost use Rattle.asl_records.specs.Numbered.{numbered_view, AreWithin};
-ghost use Rattle.asl_records.specs.View.{declared_view, certificate_view};
+ghost use Rattle.asl_records.specs.View.{declared_view};
 ghost use Rattle.asl_drafts.specs.Cutting.{IsShallow};
 ghost use Rattle.asl_drafts.specs.Drafted.{draft_view};
 ghost use Rattle.asl_drafts.specs.Order.{AreOrdered};
-ghost use Rattle.asl_infer.specs.Inferring.{IsInferRefusal, IsOfMachine, IsReasonOf};
+ghost use Rattle.asl_infer.specs.Inferring.{BreaksNoRule, IsClosedOf, IsInferredOf, IsOfMachine};
+ghost use Rattle.asl_infer.specs.Inferring.{IsRefusalOf, IsToldOf, IsWrittenShallow};
 ghost use Rattle.asl_infer.specs.Rounds.{AreCalm, Infers, IsGivenOf, Refuses};
 
 use crate::declarations::check_tasks;
@@ -73,19 +73,12 @@ pub fn infer(
     declared: &Declared,
     max_rounds: u32,
 ) -> Result<Certificate, InferRefusal>
-    ensures inferred { IfOk result (λ certificate. (m : machines.Scope) → Shows machine.now m
-        → IsInferred (table_of m) (declared_view declared.now) max_rounds
-        (certificate_view certificate)) }
-    ensures closed { IfOk result (λ certificate. (m : machines.Scope) → Shows machine.now m
-        → IsClosed (declared_view declared.now) (certificate_view certificate) m) }
-    ensures no_rule_broken { IfOk result (λ certificate. (m : machines.Scope) → Shows machine.now m
-        → findings.findings m (declared_view declared.now) (certificate_view certificate) ≡ []) }
-    ensures shallow { IfOk result (λ certificate.
-        depth (value_of (written_certificate (certificate_view certificate))) ≤ max_depth) }
-    ensures refused { IfErr result (λ refusal. (m : machines.Scope) → Shows machine.now m
-        → IsInferRefusal m (declared_view declared.now) max_rounds refusal) }
-    ensures told { IfErr result (λ refusal. (m : machines.Scope) → Shows machine.now m
-        → IsReasonOf (table_of m) (declared_view declared.now) max_rounds refusal) }
+    ensures inferred { IfOk result (IsInferredOf machine.now declared.now max_rounds) }
+    ensures closed { IfOk result (IsClosedOf machine.now declared.now) }
+    ensures no_rule_broken { IfOk result (BreaksNoRule machine.now declared.now) }
+    ensures shallow { IfOk result IsWrittenShallow }
+    ensures refused { IfErr result (IsRefusalOf machine.now declared.now max_rounds) }
+    ensures told { IfErr result (IsToldOf machine.now declared.now max_rounds) }
 {
     let certificate = infer_numbered(alloc, machine, declared, max_rounds)?;
     Ok(expand_certificate(alloc, &certificate)?)
@@ -98,21 +91,19 @@ pub fn infer_numbered(
     declared: &Declared,
     max_rounds: u32,
 ) -> Result<NumberedCertificate, InferRefusal>
-    ensures inferred { IfOk result (λ certificate. (m : machines.Scope) → Shows machine.now m
-        → IsInferred (table_of m) (declared_view declared.now) max_rounds
-        (numbered_view certificate)) }
-    ensures closed { IfOk result (λ certificate. (m : machines.Scope) → Shows machine.now m
-        → IsClosed (declared_view declared.now) (numbered_view certificate) m) }
-    ensures no_rule_broken { IfOk result (λ certificate. (m : machines.Scope) → Shows machine.now m
-        → findings.findings m (declared_view declared.now) (numbered_view certificate) ≡ []) }
+    ensures inferred { IfOk result (λ certificate. IsInferred (table_of (scope_in machine.now))
+        (declared_view declared.now) max_rounds (numbered_view certificate)) }
+    ensures closed { IfOk result (λ certificate. IsClosed (declared_view declared.now)
+        (numbered_view certificate) (scope_in machine.now)) }
+    ensures no_rule_broken { IfOk result (λ certificate. findings.findings (scope_in machine.now)
+        (declared_view declared.now) (numbered_view certificate) ≡ []) }
     ensures within { IfOk result AreWithin }
     ensures shallow { IfOk result (λ certificate.
         depth (value_of (written_certificate (numbered_view certificate))) ≤ max_depth) }
-    ensures refused { IfErr result (λ refusal. (m : machines.Scope) → Shows machine.now m
-        → IsInferRefusal m (declared_view declared.now) max_rounds refusal) }
-    ensures told { IfErr result (λ refusal. (m : machines.Scope) → Shows machine.now m
-        → IsReasonOf (table_of m) (declared_view declared.now) max_rounds refusal) }
+    ensures refused { IfErr result (IsRefusalOf machine.now declared.now max_rounds) }
+    ensures told { IfErr result (IsToldOf machine.now declared.now max_rounds) }
 {
+    machine.is_shown();
     settled_drafts_are_closed();
     settled_drafts_break_no_rule();
     told_findings_stand();

@@ -5,12 +5,11 @@ ghost use Rattle.serde_json.specs.Data.{depth};
 ghost use Rattle.serde_json.specs.Read.{max_depth};
 ghost use Rattle.asl_model.specs.Certificate as certificates;
 ghost use Rattle.asl_model.specs.Json.{value_of};
-ghost use Rattle.asl_model.specs.Machine as machines;
 ghost use Rattle.asl_model.specs.Numbering.{table_of};
 ghost use Rattle.asl_model.specs.RecordShapes.{HoldsForCertificate};
 ghost use Rattle.asl_model.specs.Written.{written_certificate};
 ghost use Rattle.asl_draft_laws.specs.Drafts.{IsInferred};
-ghost use Rattle.asl_machine_table.specs.Table.{Shows, table_view};
+ghost use Rattle.asl_machine_table.specs.Table.{scope_in, table_view};
 ghost use Rattle.asl_records.specs.Numbered.{numbered_view, AreWithin};
 ghost use Rattle.asl_records.specs.View.{declared_view};
 ghost use Rattle.asl_drafts.specs.Cutting.{IsShallow};
@@ -41,22 +40,22 @@ pub fn infer_leniently(
     declared: &Declared,
     max_rounds: u32,
 ) -> Result<Option<NumberedCertificate>, OutOfMemory>
-    ensures inferred { IfOk result (λ found. (m : machines.Scope) → Shows machine.now m
-        → IfSome found (λ certificate. IsInferredLeniently (table_of m)
+    ensures inferred { let table = table_of (scope_in machine.now) in
+        IfOk result (λ found. IfSome found (λ certificate. IsInferredLeniently table
         (declared_view declared.now) max_rounds (numbered_view certificate))) }
-    ensures never_settles { IfOk result (λ found. (m : machines.Scope) → Shows machine.now m
-        → IfNone found
-        (NeverSettlesLeniently (table_of m) (declared_view declared.now) max_rounds)) }
-    ensures few_rounds { IfOk result (λ found. (m : machines.Scope) → Shows machine.now m
-        → IfNone found (max_rounds ≤ 33 * certified_shapes (table_of m))) }
-    ensures same { IfOk result (λ found. (m : machines.Scope) → Shows machine.now m
-        → (strict : certificates.Certificate)
-        → IsInferred (table_of m) (declared_view declared.now) max_rounds strict
+    ensures never_settles { let table = table_of (scope_in machine.now) in
+        IfOk result (λ found. IfNone found
+        (NeverSettlesLeniently table (declared_view declared.now) max_rounds)) }
+    ensures few_rounds { IfOk result (λ found. IfNone found
+        (max_rounds ≤ 33 * certified_shapes (table_of (scope_in machine.now)))) }
+    ensures same { IfOk result (λ found. (strict : certificates.Certificate)
+        → IsInferred (table_of (scope_in machine.now)) (declared_view declared.now) max_rounds strict
         → option_map numbered_view found ≡ Some strict) }
     ensures within { IfOk result (λ found. IfSome found AreWithin) }
     ensures shallow { IfOk result (λ found. IfSome found (λ certificate.
         depth (value_of (written_certificate (numbered_view certificate))) ≤ max_depth)) }
 {
+    machine.is_shown();
     settle_leniently(alloc, machine, declared, max_rounds)
 }
 

@@ -1,7 +1,6 @@
 //! What is wrong with a machine that is read, by the certificate that is inferred of it.
 ghost use Rattle.std.specs.Prelude.{◌≡◌, ◌∷◌, [], IfOk, IfSome, map};
-ghost use Rattle.asl_model.specs.Machine.{Scope};
-ghost use Rattle.asl_machine_table.specs.Table.{Shows, table_view};
+ghost use Rattle.asl_machine_table.specs.Table.{scope_in, table_view};
 ghost use Rattle.asl_records.specs.Numbered.{AreWithin, numbered_view};
 ghost use Rattle.asl_records.specs.View.{declared_view};
 ghost use Rattle.asl_check.specs.Told.{listed};
@@ -49,9 +48,8 @@ pub(crate) fn judge(
     declared: &Declared,
     max_rounds: u32,
 ) -> Result<Judged, OutOfMemory>
-    ensures told { IfOk result (λ judged. (m : Scope) → Shows machine.now m
-        → TellsOfMachine max_rounds m (declared_view declared.now)
-        (map told_by judged.problems.items)) }
+    ensures told { IfOk result (λ judged. TellsOfMachine max_rounds (scope_in machine.now)
+        (declared_view declared.now) (map told_by judged.problems.items)) }
     ensures within { IfOk result (λ judged. IfSome judged.certificate AreWithin) }
 {
     match infer_numbered(alloc, machine, declared, max_rounds) {
@@ -75,11 +73,12 @@ fn judge_leniently(
     max_rounds: u32,
     finding: Finding,
 ) -> Result<Judged, OutOfMemory>
-    ensures told { IfOk result (λ judged. (m : Scope) → Shows machine.now m
-        → TellsInstead max_rounds m (declared_view declared.now) (finding_view finding)
+    ensures told { IfOk result (λ judged. TellsInstead max_rounds (scope_in machine.now)
+        (declared_view declared.now) (finding_view finding)
         (map told_by judged.problems.items)) }
     ensures within { IfOk result (λ judged. IfSome judged.certificate AreWithin) }
 {
+    machine.is_shown();
     let Some(mut certificate) = infer_leniently(alloc, machine, declared, max_rounds)? else {
         return Judged::alone(alloc, Problem::finding(finding, None));
     };

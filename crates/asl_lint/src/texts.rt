@@ -1,8 +1,7 @@
 //! What is told of two texts, or of one.
 ghost use Rattle.std.specs.Prelude.{◌≡◌, ℕ, IfOk, map, option_map};
-ghost use Rattle.asl_model.specs.Machine.{Scope};
 ghost use Rattle.asl_model.specs.Names.{Bytes};
-ghost use Rattle.asl_machine_table.specs.Table.{Shows};
+ghost use Rattle.asl_machine_table.specs.Table.{scope_in};
 ghost use Rattle.asl_records.specs.View.{declared_view};
 ghost use Rattle.asl_texts.specs.Verifying.{ReadsInto};
 ghost use Rattle.asl_lint.specs.Reading.{IsDeclaration};
@@ -148,9 +147,8 @@ fn find_under(
     declared: &Declared,
     max_rounds: u32,
 ) -> Result<Found, OutOfMemory>
-    ensures { IfOk result (λ found. (m : Scope) → Shows machine m
-        → TellsOfMachine max_rounds m (declared_view declared.now)
-        (map told_by found.problems.items)) }
+    ensures { IfOk result (λ found. TellsOfMachine max_rounds (scope_in machine)
+        (declared_view declared.now) (map told_by found.problems.items)) }
 {
     let judged = judge(alloc, &machine, declared, max_rounds)?;
     Ok(Found {

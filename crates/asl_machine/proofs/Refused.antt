@@ -1,18 +1,17 @@
 -- What is wrong with a definition is what its rules say, and what its states' names say.
-use Rattle.std.proofs.Common.{◌≡◌, refl, sym, ap, ◌∙◌, subst, ℕ, List, [], ◌++◌, map, append_assoc, Option, Some, None, Result, Ok, Err, IfSome, IfOk, IfErr}
+use Rattle.std.proofs.Common.{◌≡◌, refl, sym, ap, ◌∙◌, subst, ℕ, List, [], ◌++◌, map, append_assoc, Option, Some, None, IfSome}
 use Rattle.serde_json.specs.Data.{Data}
 use Rattle.asl_model.specs.DefinitionTable.{machine_rows}
-use Rattle.asl_model.specs.Numbering.{Standing, standing_in, outlined, table_among}
+use Rattle.asl_model.specs.Numbering.{IsWellNamed, Standing, Table, standing_in, outlined, table_among, table_of}
 use Rattle.asl_model.specs.StandsFor.{Complaint, StandsFor, scope_of, all_names, complaints, no_object_complaints, scope_complaints, duplicate_complaints, number_complaints, place_of_state}
 use Rattle.asl_model.proofs.Numbering.{names_of_standing, outlined_names}
 use Rattle.asl_model.proofs.WellNamed.{well_named}
-use Rattle.asl_machine_table.specs.declared.machine.Machine.{Machine}
-use Rattle.asl_machine.specs.declared.refusals.DefRefusal.{DefRefusal}
 use Rattle.asl_machine.specs.Definition.{IsAmong}
 use Rattle.asl_machine.specs.Numbered.{names_of_all}
 use Rattle.asl_machine.specs.Refusal.{IsRefused, without_memory, for_broken_rule}
-use Rattle.asl_machine_table.specs.Table.{table_view, Shows, StatesAreNumbered}
-use Rattle.asl_machine.specs.View.{refusal_view}
+use Rattle.asl_machine_table.specs.Rebuilding.{machine_of}
+use Rattle.asl_machine_table.specs.Table.{IsWhole}
+use Rattle.asl_machine_table.proofs.Rebuilt.{rebuilt}
 use Rattle.asl_machine.proofs.Checks.{among_first, among_second}
 
 -- what is wrong but for the names of states
@@ -53,17 +52,14 @@ pub told_found : (wrong : List Complaint) (told found : Option Complaint) → If
 told_found wrong None found e h = tt
 told_found wrong (Some c) found e h = subst (λ o. IsAmong wrong o) e h
 
--- where the states are numbered the value stands for its machine
-pub stands_numbered : (v : Data) (built : List Standing) (result : Result Machine DefRefusal) → built ≡ map outlined (standing_in None (scope_of v)) → rules_broken v ≡ [] → IfOk result (λ _. duplicate_complaints (names_of_all built) ≡ []) → IfOk result (λ _. number_complaints (names_of_all built) ≡ []) → IfOk result (λ _. StandsFor v (scope_of v))
-stands_numbered v built (Ok machine) e rules distinct few = stands v built e rules distinct few
-stands_numbered v built (Err refusal) e rules distinct few = tt
+-- the table that is built is that of its machine
+pub whole : (v : Data) (built : List Standing) (table : Table) → built ≡ map outlined (standing_in None (scope_of v)) → StandsFor v (scope_of v) → table ≡ table_among built → IsWhole table
+whole v built table e for same =
+    let well = well_named v (scope_of v) for in
+    let its : table ≡ table_of (scope_of v) = same ∙ ap table_among e in
+    let back : machine_of table ≡ scope_of v = ap machine_of its ∙ rebuilt (scope_of v) well in
+    record { table = its ∙ ap table_of (sym back); well_named = subst IsWellNamed (sym back) well }
 
--- and the machine that is built shows that one
-pub shown_numbered : (v : Data) (built : List Standing) (result : Result Machine DefRefusal) → built ≡ map outlined (standing_in None (scope_of v)) → rules_broken v ≡ [] → IfOk result (λ machine. table_view machine ≡ table_among built) → IfOk result StatesAreNumbered → IfOk result (λ _. duplicate_complaints (names_of_all built) ≡ []) → IfOk result (λ _. number_complaints (names_of_all built) ≡ []) → IfOk result (λ machine. Shows machine (scope_of v))
-shown_numbered v built (Ok machine) e rules table numbered distinct few = record { table = table ∙ ap table_among e; well_named = well_named v (scope_of v) (stands v built e rules distinct few); numbered = numbered }
-shown_numbered v built (Err refusal) e rules table numbered distinct few = tt
-
--- where they aren't numbered that is a reason to refuse
-pub refused_numbered : (v : Data) (built : List Standing) (result : Result Machine DefRefusal) → built ≡ map outlined (standing_in None (scope_of v)) → IfErr result (λ refusal. IsAmong (names_broken (names_of_all built)) (refusal_view refusal)) → IfErr result (λ refusal. IsRefused v (refusal_view refusal))
-refused_numbered v built (Ok machine) e h = tt
-refused_numbered v built (Err refusal) e h = names_refused v built e (refusal_view refusal) h
+-- so the machine of that table is the definition's
+pub same_machine : (v : Data) (built : List Standing) (table : Table) → built ≡ map outlined (standing_in None (scope_of v)) → StandsFor v (scope_of v) → table ≡ table_among built → machine_of table ≡ scope_of v
+same_machine v built table e for same = ap machine_of (same ∙ ap table_among e) ∙ rebuilt (scope_of v) (well_named v (scope_of v) for)

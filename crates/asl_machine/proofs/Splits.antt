@@ -12,7 +12,6 @@ use Rattle.asl_model.specs.Json.{tree_of}
 use Rattle.asl_model.specs.RuleSpelling.{rule_of}
 use Rattle.asl_model.specs.Test.{Rule}
 use Rattle.asl_model.specs.StandsFor.{Complaint, Place, members_in, complaint_at, fields_complaints, element_complaints, target_complaints, rules_complaints}
-use Rattle.asl_machine.specs.declared.rows.Row.{Row}
 use Rattle.asl_machine.specs.Reading.{rules_among}
 use Rattle.asl_machine.specs.Telling.{rule_spelled}
 use Rattle.asl_machine.proofs.Values.{items_parts}

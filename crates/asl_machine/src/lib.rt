@@ -28,9 +28,8 @@ mod telling;
 mod trouble_reading;
 mod value_checking;
 
-pub use asl_states::{
-    Catcher, ChoiceRule, Delay, Kind, Machine, Retrier, Scope, Settings, State, Target,
-};
+pub use asl_machine_table::Machine;
+pub use asl_states::{Catcher, ChoiceRule, Delay, Kind, Retrier, Scope, Settings, State, Target};
 pub use complaining::complaints;
 pub use reading::read;
 pub use refusals::{DefFault, DefRefusal};

@@ -1,19 +1,17 @@
-// Numbering the states of a definition: the machine of the rows that were built.
+// Numbering the states of a definition: the table of the rows that were built.
 
 ghost use Rattle.std.specs.Prelude.{◌≡◌, ◌++◌, ◌∷◌, [], List, map, string_bytes, IfOk, IfErr, OnOk, false, string_eq};
 ghost use Rattle.std.specs.List.{list_any};
 ghost use Rattle.asl_model.specs.Numbering.{Standing, table_among};
 ghost use Rattle.asl_model.specs.StandsFor.{duplicate_complaints, number_complaints};
 ghost use Rattle.asl_machine.specs.Definition.{IsAmong};
-ghost use Rattle.asl_machine.specs.Numbered.{home_view, number_in, placed_in, names_of_all, Holds, names_of_rows};
+ghost use Rattle.asl_machine.specs.Numbered.{home_view, number_in, placed_in, placed_view, names_of_all, Holds, names_of_rows};
 ghost use Rattle.asl_states.specs.Machine.{scope_view};
 ghost use Rattle.asl_machine.specs.Built.{built_view};
-ghost use Rattle.asl_machine_table.specs.Table.{StatesAreNumbered, table_view};
 ghost use Rattle.asl_machine.specs.View.{refusal_view};
 
 use crate::building::{BuiltState, Home};
 use crate::refusals::{DefFault, DefRefusal};
-use asl_machine_table::Machine;
 use asl_states::{Scope, State};
 use asl_tree::OutOfMemory;
 use indexmap::IndexSet;
@@ -30,11 +28,18 @@ pub(crate) struct Numbered<'a> {
     homes: Vec<Home<'a>>,
 }
 
-/// The machine of those rows, in their order. Refuses where a name stands twice, and more states than the limit.
-pub(crate) fn number(alloc: Global, rows: Vec<BuiltState>) -> Result<Machine, DefRefusal>
+/// The names and the states by number, and where each stands by the numbers of others.
+#[derive(Drop)]
+pub(crate) struct Placed {
+    pub(crate) names: IndexSet<String>,
+    pub(crate) states: Vec<State>,
+    pub(crate) scopes: Vec<Scope>,
+}
+
+/// The table of those rows, in their order. Refuses where a name stands twice, and more states than the limit.
+pub(crate) fn number(alloc: Global, rows: Vec<BuiltState>) -> Result<Placed, DefRefusal>
     ensures table { IfOk result
-        (λ m. table_view m ≡ table_among (map built_view rows.entry.items)) }
-    ensures numbered { IfOk result StatesAreNumbered }
+        (λ placed. placed_view placed ≡ table_among (map built_view rows.entry.items)) }
     ensures distinct { IfOk result
         (λ _. duplicate_complaints (names_of_rows rows.entry.items) ≡ []) }
     ensures few { IfOk result (λ _. number_complaints (names_of_rows rows.entry.items) ≡ []) }
@@ -48,7 +53,11 @@ pub(crate) fn number(alloc: Global, rows: Vec<BuiltState>) -> Result<Machine, De
     }
     let numbered = number_all(alloc, rows)?;
     match place_all(alloc, &numbered.names, &numbered.homes) {
-        Ok(scopes) => Ok(Machine::new(numbered.names, numbered.states, scopes)),
+        Ok(scopes) => Ok(Placed {
+            names: numbered.names,
+            states: numbered.states,
+            scopes,
+        }),
         Err(_) => Err(DefRefusal::out_of_memory(alloc)),
     }
 }

@@ -2,10 +2,9 @@
 
 ghost use Rattle.std.specs.Prelude.{◌≡◌, IfOk, IfErr};
 ghost use Rattle.serde_json.specs.View.{view};
-ghost use Rattle.asl_model.specs.Numbering.{table_of};
 ghost use Rattle.asl_model.specs.StandsFor.{StandsFor, scope_of};
 ghost use Rattle.asl_machine.specs.Refusal.{IsRefused};
-ghost use Rattle.asl_machine_table.specs.Table.{table_view, Shows};
+ghost use Rattle.asl_machine_table.specs.Table.{scope_in};
 ghost use Rattle.asl_machine.specs.View.{refusal_view};
 
 use crate::numbering::number;
@@ -21,14 +20,15 @@ use std::alloc::Global;
 /// growth was refused.
 pub fn read(alloc: Global, value: &Value) -> Result<Machine, DefRefusal>
     ensures machine { IfOk result (λ _. StandsFor (view value.now) (scope_of (view value.now))) }
-    ensures table { IfOk result
-        (λ machine. table_view machine ≡ table_of (scope_of (view value.now))) }
-    ensures shown { IfOk result (λ machine. Shows machine (scope_of (view value.now))) }
+    ensures scope { IfOk result (λ machine. scope_in machine ≡ scope_of (view value.now)) }
     ensures refused { IfErr result (λ refusal. IsRefused (view value.now) (refusal_view refusal)) }
 {
     let mut built = Vec::new(alloc);
     match read_states(alloc, value, &mut built) {
-        Ok(()) => number(alloc, built),
+        Ok(()) => {
+            let placed = number(alloc, built)?;
+            Ok(Machine::new(placed.names, placed.states, placed.scopes))
+        }
         Err(complaint) => {
             let refusal = DefRefusal::new(alloc, complaint.fault, complaint.state, complaint.field);
             Err(refusal)

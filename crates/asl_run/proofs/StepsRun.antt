@@ -8,11 +8,10 @@ use Rattle.asl_model.specs.Numbering.{own_scope}
 use Rattle.asl_model.specs.Run as model
 use Rattle.asl_model.specs.Run.{activity_at, child_at, scope_below, step_at, within}
 use Rattle.asl_model.proofs.RunOptions.{none_some}
-use Rattle.asl_run.specs.Entries.{entry_view, event_view}
+use Rattle.asl_run.specs.Entries.{entry_view}
 use Rattle.asl_run.specs.Standing.{StandsIn}
 use Rattle.asl_run.specs.Stepping.{IsStep, RefusedSo, StepsIn, Steps}
 use Rattle.asl_run.specs.declared.entries.Entry.{Entry}
-use Rattle.asl_run.specs.declared.entries.Event.{Event}
 use Rattle.asl_run.specs.declared.stepping.StepRefusal.{StepRefusal}
 use Rattle.asl_run.specs.declared.stepping.StepRefusal.TheVariants.{NoSuchPlace, NotEnabled, OutOfMemory}
 use Rattle.asl_model.proofs.RunStands.{step_stands}
@@ -26,12 +25,6 @@ still_stands machine m place a b action r shown stands h = go r (h.steps m m sho
     go (Err refusal) s = subst (λ c. StandsIn c m) (sym s.unchanged) stands
 
 -- ---- the answers
-
--- by the event's own place and action
-pub so_by_event : (machine : Machine) (event : Event) (place slice : List ℕ) (a b : model.Activity) (action : model.Action) (r : Result (Vec Entry Global) StepRefusal) → event_view event ≡ record { place = place; action = action } → slice ≡ place → Steps machine slice slice a b action r
-    → Steps machine (event_view event).place (event_view event).place a b (event_view event).action r
-so_by_event machine event place slice a b action r is same h =
-    subst (λ (e : model.Event). Steps machine e.place e.place a b e.action r) (sym is) (subst (λ p. Steps machine p p a b action r) same h)
 
 -- it is taken
 pub so_taken : (machine : Machine) (m : Scope) (place : List ℕ) (a b : model.Activity) (action : model.Action) (r : Result (Vec Entry Global) StepRefusal) (entries : Vec Entry Global) → r ≡ Ok entries → Shows machine m → StandsIn a m → Steps machine place place a b action r

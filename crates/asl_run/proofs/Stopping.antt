@@ -1,5 +1,7 @@
 -- How driving stops, or is broken off.
 use Rattle.std.proofs.Common.{◌≡◌, ℕ, ◌<◌, ◌≤◌, List, Option, Some, None, slice_get, sym, ap, ◌∙◌, subst, arith}
+use Rattle.asl_machine_table.specs.Held.{Held}
+use Rattle.asl_machine_table.specs.Table.{scope_in}
 use Rattle.asl_model.specs.Tree.{Tree}
 use Rattle.asl_model.specs.Machine.{Scope}
 use Rattle.asl_model.specs.Numbering.{table_of}
@@ -12,6 +14,18 @@ use Rattle.asl_run.specs.declared.driving.Stop.TheVariants as stops
 use Rattle.asl_run.specs.declared.entries.Answer.{Answer}
 use Rattle.asl_run.proofs.Driven.{no_turn_more}
 use Rattle.asl_run.proofs.Turns.{IsWithin, drives_for}
+
+-- ---- the same machine
+
+pub same_drives : {policy : Policy} {count : ℕ} {before after : Stage} {one other : Held} → one ≡ other → Drives policy (scope_in one) count before after → Drives policy (scope_in other) count before after
+same_drives {policy = policy} {count = count} {before = before} {after = after} same = subst (λ held. Drives policy (scope_in held) count before after) same
+
+pub same_pauses : (policy : Policy) (a : Activity) (names : List (List ℕ)) (given left : List Action) (pause : Pause) (one other : Held) → one ≡ other
+    → Pauses (TurnIsUnanswered policy (scope_in one) a) names given left pause → Pauses (TurnIsUnanswered policy (scope_in other) a) names given left pause
+same_pauses policy a names given left pause one other same =
+    subst (λ held. Pauses (TurnIsUnanswered policy (scope_in held) a) names given left pause) same
+
+-- ---- how it stops
 
 ends : (policy : Policy) (machine : Scope) (most count : ℕ) (a : Activity) (stop : Stop) → EndsSo (Some stop) (outcome_of a) → StopsSo policy machine most count a stop
 ends policy machine most count a stops.Output h = h

@@ -1,8 +1,7 @@
 //! Driving a run: its places take turns, in an order, and a source answers its tasks.
 
 ghost use Rattle.std.specs.Prelude.{◌≡◌, ℕ, List, [], map, Option, None, IfOk, IfErr, OnOk};
-ghost use Rattle.asl_machine_table.specs.Table.{Shows, table_view};
-ghost use Rattle.asl_model.specs.Machine.{Scope};
+ghost use Rattle.asl_machine_table.specs.Table.{scope_in};
 ghost use Rattle.asl_model.specs.Run as model;
 ghost use Rattle.asl_model.specs.Tree as trees;
 ghost use Rattle.asl_run.specs.Driving.{policy_of, stage_of, Drives, Stops, BreaksOff, answer_in, unused};
@@ -10,7 +9,7 @@ ghost use Rattle.asl_run.specs.Driving.{ComesNext, EndsSo, IsLeft, IsPicked, IsT
 ghost use Rattle.asl_run.specs.Driving.{Pauses, Suits, TurnIsUnanswered};
 ghost use Rattle.asl_run.specs.Entries.{entry_view, event_view};
 ghost use Rattle.asl_run.specs.Nodes.{shown_at};
-ghost use Rattle.asl_run.specs.Running.{run_view, IsRunOf};
+ghost use Rattle.asl_run.specs.Running.{run_view, scope_of, step_of};
 ghost use Rattle.asl_run.specs.Standing.{StandsIn};
 ghost use Rattle.std.specs.Option.{IsSome};
 
@@ -66,18 +65,16 @@ pub fn drive<'m, O: Order, A: Answers>(
     answers: &mut A,
     max_steps: u64,
 ) -> Result<(Stop, Vec<Entry<'m>>), DriveRefusal<'m>>
-    ensures run { (m : Scope) → IsRunOf m run.old → IsRunOf m run.new }
-    ensures stops { (m : Scope) → IsRunOf m run.old
-        → let policy = policy_of (O.may_pick order.old) (A.may_give answers.old)
+    ensures machine { run.new.machine ≡ run.old.machine }
+    ensures stops { let policy = policy_of (O.may_pick order.old) (A.may_give answers.old)
         (A.may_be_silent answers.old answers.new) in
-        IfOk result (λ driven. Stops policy m max_steps
+        IfOk result (λ driven. Stops policy (scope_of run.old) max_steps
         (stage_of (run_view run.old) (A.content answers.old) []) driven.0
         (stage_of (run_view run.new) (A.content answers.new)
         (map entry_view driven.1.items))) }
-    ensures broken_off { (m : Scope) → IsRunOf m run.old
-        → let policy = policy_of (O.may_pick order.old) (A.may_give answers.old)
+    ensures broken_off { let policy = policy_of (O.may_pick order.old) (A.may_give answers.old)
         (A.may_be_silent answers.old answers.new) in
-        IfErr result (λ refusal. BreaksOff policy m max_steps
+        IfErr result (λ refusal. BreaksOff policy (scope_of run.old) max_steps
         (stage_of (run_view run.old) (A.content answers.old) []) refusal.answer
         (stage_of (run_view run.new) (A.content answers.new)
         (map entry_view refusal.trace.items))) }
@@ -87,6 +84,7 @@ pub fn drive<'m, O: Order, A: Answers>(
     ensures lasting_silent { (later : A) (n : List ℕ) (t : trees.Tree)
         → A.may_be_silent answers.new later n t → A.may_be_silent answers.old later n t }
 {
+    run.stands();
     let mut trace = Vec::new(run.alloc);
     'turns: for _taken in 0..max_steps {
         if let Some(stop) = how_ended(run) {
@@ -125,22 +123,18 @@ fn turn<'m, O: Order, A: Answers>(
     trace: &mut Vec<Entry<'m>>,
 ) -> Result<(), Pause>
     requires goes_on { model.outcome_of (run_view run.old) ≡ None }
-    ensures run { (m : Scope) → IsRunOf m run.old → IsRunOf m run.new }
-    ensures goes_on { (m : Scope) → IsRunOf m run.old
-        → let policy = policy_of (O.may_pick order.old) (A.may_give answers.old)
+    ensures machine { run.new.machine ≡ run.old.machine }
+    ensures goes_on { let policy = policy_of (O.may_pick order.old) (A.may_give answers.old)
         (A.may_be_silent answers.old answers.new) in
-        OnOk result (Drives policy m 1
+        OnOk result (Drives policy (scope_of run.old) 1
         (stage_of (run_view run.old) (A.content answers.old) (map entry_view trace.old.items))
         (stage_of (run_view run.new) (A.content answers.new)
         (map entry_view trace.new.items))) }
-    ensures pauses { (m : Scope) → IsRunOf m run.old
-        → let policy = policy_of (O.may_pick order.old) (A.may_give answers.old)
+    ensures pauses { let policy = policy_of (O.may_pick order.old) (A.may_give answers.old)
         (A.may_be_silent answers.old answers.new) in
-        IfErr result (λ pause. Pauses (TurnIsUnanswered policy m (run_view run.old))
-        (table_view run.old.machine.now).names (A.content answers.old) (A.content answers.new)
-        pause) }
-    ensures stays { (m : Scope) → IsRunOf m run.old
-        → IfErr result (λ _. IsLeft (run_view run.old) (map entry_view trace.old.items)
+        IfErr result (λ pause. Pauses (TurnIsUnanswered policy (scope_of run.old) (run_view run.old))
+        run.old.machine.names (A.content answers.old) (A.content answers.new) pause) }
+    ensures stays { IfErr result (λ _. IsLeft (run_view run.old) (map entry_view trace.old.items)
         (run_view run.new) (map entry_view trace.new.items)) }
     ensures lasting_order { (n : ℕ) (k : ℕ) → O.may_pick order.new n k → O.may_pick order.old n k }
     ensures lasting { (n : List ℕ) (t : trees.Tree) (answer : model.Action)
@@ -148,6 +142,7 @@ fn turn<'m, O: Order, A: Answers>(
     ensures lasting_silent { (later : A) (n : List ℕ) (t : trees.Tree)
         → A.may_be_silent answers.new later n t → A.may_be_silent answers.old later n t }
 {
+    run.stands();
     let place = match picked_place(run, order) {
         Ok(place) => place,
         Err(OutOfMemory) => return Err(Pause::OutOfMemory(None)),
@@ -165,10 +160,11 @@ fn turn<'m, O: Order, A: Answers>(
 /// The place whose turn it is, of those where an event is enabled, of a run that hasn't ended.
 fn picked_place<O: Order>(run: &Run, order: &mut O) -> Result<Place, OutOfMemory>
     requires goes_on { model.outcome_of (run_view run.now) ≡ None }
-    ensures picked { (m : Scope) → IsRunOf m run.now
-        → IfOk result (λ place. IsPicked (O.may_pick order.old) m (run_view run.now) place.items) }
+    ensures picked { IfOk result (λ place.
+        IsPicked (O.may_pick order.old) (scope_of run.now) (run_view run.now) place.items) }
     ensures lasting { (n : ℕ) (k : ℕ) → O.may_pick order.new n k → O.may_pick order.old n k }
 {
+    run.stands();
     let count = run.standing.open_count();
     let picked = order.pick(count);
     if picked == 0 {
@@ -191,13 +187,12 @@ fn next_event<A: Answers>(
 ) -> Result<Event, Pause>
     ensures place { IfOk result (λ event. (event_view event).place ≡ place.items) }
     ensures next { IfOk result (λ event. ComesNext (A.may_give answers.old)
-        (shown_at (table_view machine.now).names nodes.now 0) (A.content answers.old)
+        (shown_at machine.now.names nodes.now 0) (A.content answers.old)
         (event_view event) (A.content answers.new)) }
-    ensures suited { (m : Scope) → Shows machine.now m
-        → let a = shown_at (table_view machine.now).names nodes.now 0 in StandsIn a m
-        → IfOk result (λ event.
+    ensures suited { let a = shown_at machine.now.names nodes.now 0 in
+        StandsIn a (scope_in machine.now) → IfOk result (λ event.
         Suits (model.activity_at (event_view event).place a) (event_view event).action) }
-    ensures pauses { let names = (table_view machine.now).names in
+    ensures pauses { let names = machine.now.names in
         let Unanswered = IsUnanswered (A.may_be_silent answers.old answers.new) place.items
         (shown_at names nodes.now 0) in
         IfErr result (λ pause.
@@ -225,17 +220,14 @@ fn take<'m>(
     event: Event,
     trace: &mut Vec<Entry<'m>>,
 ) -> Result<(), Option<Answer>>
-    requires enabled { (m : Scope) → IsRunOf m run.old
-        → IsSome (model.step m (run_view run.old) (event_view event)) }
-    ensures run { (m : Scope) → IsRunOf m run.old → IsRunOf m run.new }
-    ensures taken { (m : Scope) → IsRunOf m run.old
-        → OnOk result (IsTold m (run_view run.old) (event_view event)
+    requires enabled { IsSome (step_of run.old event) }
+    ensures machine { run.new.machine ≡ run.old.machine }
+    ensures taken { OnOk result (IsTold (scope_of run.old) (run_view run.old) (event_view event)
         (map entry_view trace.old.items) (map entry_view trace.new.items) (run_view run.new)) }
-    ensures stays { (m : Scope) → IsRunOf m run.old
-        → IfErr result (λ _. IsLeft (run_view run.old) (map entry_view trace.old.items)
+    ensures stays { IfErr result (λ _. IsLeft (run_view run.old) (map entry_view trace.old.items)
         (run_view run.new) (map entry_view trace.new.items)) }
-    ensures returned { (m : Scope) → IsRunOf m run.old
-        → IfErr result (λ answer. unused answer ≡ answer_in (event_view event).action) }
+    ensures returned { IfErr result
+        (λ answer. unused answer ≡ answer_in (event_view event).action) }
 {
     let Ok(()) = trace.reserve(MOST_ENTRIES) else {
         return Err(answer_of(event));

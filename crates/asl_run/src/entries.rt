@@ -30,6 +30,34 @@ pub enum Event {
     Answers(Place, Answer),
 }
 
+impl Event {
+    ghost use Rattle.std.specs.Prelude.{◌≡◌, option_map};
+    ghost use Rattle.std.specs.Option.{unwrap_or};
+    ghost use Rattle.asl_model.specs.Run.{Move};
+    ghost use Rattle.asl_run.specs.Entries.{answer_view, event_view};
+
+    /// Its place.
+    pub(crate) fn place(&self) -> &[usize]
+        ensures { result.now ≡ (event_view self.now).place }
+    {
+        match self {
+            Event::Move(place) => place,
+            Event::Answers(place, _) => place,
+        }
+    }
+
+    /// The answer; a move has none.
+    pub(crate) fn answer(&self) -> Option<&Answer>
+        ensures { unwrap_or (option_map (λ a. answer_view a.now) result) Move
+            ≡ (event_view self.now).action }
+    {
+        match self {
+            Event::Move(_) => None,
+            Event::Answers(_, answer) => Some(answer),
+        }
+    }
+}
+
 /// The kind of event that a place wants.
 #[derive(Clone, Copy, Debug, Drop)]
 pub enum Want {

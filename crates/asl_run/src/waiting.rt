@@ -1,8 +1,7 @@
 //! The task that waits at a place of a run.
 
 ghost use Rattle.std.specs.Prelude.{IfSome, IfNone};
-ghost use Rattle.asl_machine_table.specs.Table.{Shows, table_view};
-ghost use Rattle.asl_model.specs.Machine.{Scope};
+ghost use Rattle.asl_machine_table.specs.Table.{scope_in};
 ghost use Rattle.asl_run.specs.Nodes.{shown_at};
 ghost use Rattle.asl_run.specs.Standing.{StandsIn};
 ghost use Rattle.asl_run.specs.Waiting.{NoneWaitsAt, WaitsAt};
@@ -25,12 +24,12 @@ pub(crate) fn waiting_at<'r>(
     nodes: &'r Nodes,
     place: &[usize],
 ) -> Option<Asked<'r>>
-    ensures found { IfSome result (λ asked. let names = (table_view machine.now).names in
+    ensures found { IfSome result (λ asked. let names = machine.now.names in
         WaitsAt names place.now (shown_at names nodes.now 0) asked) }
-    ensures none { (m : Scope) → Shows machine.now m
-        → let a = shown_at (table_view machine.now).names nodes.now 0 in StandsIn a m
-        → IfNone result (NoneWaitsAt place.now a) }
+    ensures none { let a = shown_at machine.now.names nodes.now 0 in
+        StandsIn a (scope_in machine.now) → IfNone result (NoneWaitsAt place.now a) }
 {
+    machine.is_shown();
     let number = nodes.number_at(place)?;
     match nodes.node(number) {
         Node::Waiting { visit, payload } => Some(Asked {

@@ -7,6 +7,7 @@ pub mod FirstTold
 pub mod Fronts
 pub mod Lines
 pub mod OfLines
+pub mod Promised
 pub mod Runs
 pub mod Subjects
 pub mod Texts

@@ -16,7 +16,7 @@ use Rattle.asl_model.specs.Texts.{Which, DefinitionText, DeclaredText, Certifica
 use Rattle.asl_model.specs.Texts.{TextFault, NotJson, NotWhole, NoMemory, IsNoJson, ReadsAsMachine, ReadsAsDeclared}
 use Rattle.asl_model.specs.TracePrinted.{trace_text}
 use Rattle.asl_model.specs.Tree.{Tree}
-use Rattle.asl_machine_table.specs.Table.{Shows}
+use Rattle.asl_machine_table.specs.Table.{scope_in}
 use Rattle.asl_records.specs.View.{declared_view}
 use Rattle.asl_run.specs.Driving.{answers_among}
 use Rattle.asl_run.specs.Entries.{answer_view}
@@ -79,10 +79,10 @@ given_of machine shapes input answers = record {
   answers = answers;
 }
 
--- what the code has read, where its machine shows that one
-abbrev pub given_view : Scope → Given → RunGiven
-given_view machine given =
-    given_of machine (option_map declared_view given.declared) (view given.input)
+-- what the code has read
+abbrev pub given_view : Given → RunGiven
+given_view given =
+    given_of (scope_in given.machine) (option_map declared_view given.declared) (view given.input)
     (map answer_view given.answers.items)
 
 -- the turns of a run that takes those events
@@ -235,10 +235,8 @@ pub record ReadsTexts (texts : GivenTexts) (given : RunGiven) : Type 0 where
   pub as_answers : SourceReads texts.answers given.answers
 
 -- so for what the code has read
-pub record IsGiven (texts : GivenTexts) (given : Given) : Type 0 where
-  pub machine : Scope
-  pub shown : Shows given.machine machine
-  pub read : ReadsTexts texts (given_view machine given)
+abbrev pub IsGiven : GivenTexts → Given → Type 0
+IsGiven texts given = ReadsTexts texts (given_view given)
 
 -- the texts read, and what they read as runs to that end with that text, as it is asked for
 pub record RunsTexts (request : RunRequest) (end : RunEnd) (text : List ℕ) : Type 0 where

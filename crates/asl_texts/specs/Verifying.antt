@@ -4,8 +4,8 @@ use Rattle.std.specs.Option.{unwrap_or}
 use Rattle.asl_model.specs.Machine.{Scope}
 use Rattle.asl_model.specs.Certificate.{Declared}
 use Rattle.asl_model.specs.Texts.{Which, DefinitionText, DeclaredText, CertificateText, TextFault, NotJson, BadRecord, NoMemory, IsNoJson, IsDefinitionFault, IsDeclaredFault, IsCertificateFault, IsRefusal, ReadsAsMachine, ReadsAsDeclared}
-use Rattle.asl_machine_table.specs.Table.{Shows}
-use Rattle.asl_machine_table.specs.declared.machine.Machine.{Machine}
+use Rattle.asl_machine_table.specs.Held.{Held}
+use Rattle.asl_machine_table.specs.Table.{scope_in}
 use Rattle.asl_records.specs.View.{complaint_view}
 use Rattle.asl_records.specs.declared.refusals.ReadFault.{ReadFault}
 use Rattle.asl_records.specs.declared.refusals.ReadFault.TheVariants as kept
@@ -25,11 +25,9 @@ abbrev pub record_fault_of : ReadFault → TextFault
 record_fault_of (kept.Record refusal) = unwrap_or (option_map BadRecord (complaint_view refusal)) NoMemory
 record_fault_of kept.OutOfMemory = NoMemory
 
--- the text reads as a definition that the machine shows
-pub record ReadsInto (text : List ℕ) (machine : Machine) : Type 0 where
-  pub definition : Scope
-  pub reads : ReadsAsMachine text definition
-  pub shown : Shows machine definition
+-- the text reads as the definition of the machine
+abbrev pub ReadsInto : List ℕ → Held → Type 0
+ReadsInto text machine = ReadsAsMachine text (scope_in machine)
 
 -- why a text is refused as a definition: the fault stands in it, or there was no memory
 pub data RefusesDefinition (text : List ℕ) : TextFault → Type 0 where

@@ -1,8 +1,7 @@
 //! From the texts of a run to its trace.
 
 ghost use Rattle.std.specs.Prelude.{◌≡◌, map, option_map, IsTrue, IfOk, IfErr, OnOk};
-ghost use Rattle.asl_machine_table.specs.Table.{Shows, table_view};
-ghost use Rattle.asl_model.specs.Machine.{Scope};
+ghost use Rattle.asl_machine_table.specs.Table.{scope_in, table_view};
 ghost use Rattle.asl_records.specs.View.{declared_view};
 ghost use Rattle.asl_run.specs.Driving.{policy_of};
 ghost use Rattle.asl_run.specs.Entries.{answer_view};
@@ -83,8 +82,7 @@ pub fn run_texts<R: Source, W: Sink>(
 
 /// The run of what the texts read as; none where the input isn't of its shape.
 fn run_given(alloc: Global, given: Given, order: Pick, max_steps: u64) -> Result<Told, OutOfMemory>
-    ensures { (m : Scope) → Shows given.machine m
-        → IfOk result (λ told. RunsTo (given_view m given) order max_steps
+    ensures { IfOk result (λ told. RunsTo (given_view given) order max_steps
         (run_end_view told.end) told.trace.items) }
 {
     let Given {
@@ -127,11 +125,12 @@ fn run_with(
     max_steps: u64,
 ) -> Result<Told, OutOfMemory>
     ensures { let shapes = option_map (λ d. declared_view d.now) answers.old.declared in
-        (m : Scope) → Shows machine.now m → IsTrue (fits_input shapes (view input))
-        → let given = given_of m shapes (view input) (map answer_view answers.old.list.items) in
-        IfOk result (λ told. IsRun given order max_steps
+        let given = given_of (scope_in machine.now) shapes (view input)
+        (map answer_view answers.old.list.items) in
+        IsTrue (fits_input shapes (view input)) → IfOk result (λ told. IsRun given order max_steps
         (run_end_view told.end) told.trace.items) }
 {
+    machine.is_shown();
     let (stop, trace) = trace(alloc, machine, input, &mut order, answers, max_steps)?;
     let end = end_of(alloc, machine, stop, answers.is_spent())?;
     Ok(Told { end, trace })
@@ -147,9 +146,9 @@ fn trace<O: Order, A: Answers>(
     answers: &mut A,
     max_steps: u64,
 ) -> Result<(Stop, Vec<u8>), OutOfMemory>
-    ensures { (m : Scope) → Shows machine.now m
-        → let policy = policy_of (O.may_pick order.old) (A.may_give answers.old)
+    ensures { let policy = policy_of (O.may_pick order.old) (A.may_give answers.old)
         (A.may_be_silent answers.old answers.new) in
+        let m = scope_in machine.now in
         IfOk result (λ traced. Traces policy m max_steps
         (begun m (view input) (A.content answers.old))
         traced.0 traced.1.items (A.content answers.new)) }

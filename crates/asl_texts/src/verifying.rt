@@ -3,14 +3,14 @@
 ghost use Rattle.std.specs.Prelude.{◌≡◌, IsTrue, IfOk, IfErr, OnOk};
 ghost use Rattle.std.specs.Io.KnownBytes.{Appends};
 ghost use Rattle.asl_model.specs.Printed.{verdict_text};
-ghost use Rattle.asl_model.specs.Headline.{AreClosed, NeverFaults, AreRejected, IsVerdictOn, WhereAccepted, WhereRejected};
+ghost use Rattle.asl_model.specs.Headline.{IsVerdictOn};
 ghost use Rattle.asl_check.specs.View.{verdict_view};
 ghost use Rattle.asl_texts.specs.FirstTold.{TellsFirstOn};
 ghost use Rattle.asl_texts.specs.Fronts.{IfLinesRead, NoFrontLineIsLong};
 ghost use Rattle.asl_texts.specs.Lines.{NoLineIsLong};
-ghost use Rattle.asl_texts.specs.Verifying.{IsRefused, TellsRefusal};
+ghost use Rattle.asl_texts.specs.Promised.{ClosedIfYes, IsOfFirst, IsRefusalOf, IsVerdictOf, NoFaultIfYes, RejectedIfNo};
+ghost use Rattle.asl_texts.specs.Verifying.{TellsRefusal};
 ghost use Rattle.asl_texts.specs.OfLines.{AreRejectedWhereNo, AreClosedWhereYes, NeverFaultWhereYes, OfLinesTells};
-ghost use Rattle.asl_texts.specs.View.{which_view, text_fault_view};
 ghost use Rattle.asl_texts.specs.Writing.{CheckFaultStands};
 
 use crate::lines::read_lines;
@@ -41,22 +41,17 @@ pub fn verify_texts(
     declared: &[u8],
     certificate: &[u8],
 ) -> Result<Verdict, TextRefusal>
-    ensures verdict { IfOk result (λ verdict.
-        IsVerdictOn definition.now declared.now certificate.now (verdict_view verdict)) }
-    ensures first { IfOk result (λ verdict.
-        TellsFirstOn definition.now declared.now certificate.now (verdict_view verdict)) }
-    ensures yes { IfOk result (λ verdict. WhereAccepted
-        (AreClosed definition.now declared.now certificate.now) (verdict_view verdict)) }
-    ensures headline { IfOk result (λ verdict. WhereAccepted
-        (NeverFaults definition.now declared.now certificate.now) (verdict_view verdict)) }
-    ensures no { IfOk result (λ verdict. WhereRejected
-        (AreRejected definition.now declared.now certificate.now) (verdict_view verdict)) }
-    ensures refused { IfErr result (λ refusal. IsRefused definition.now declared.now certificate.now
-        (which_view refusal.which) (text_fault_view refusal.fault)) }
+    ensures verdict { IfOk result (IsVerdictOf definition.now declared.now certificate.now) }
+    ensures first { IfOk result (IsOfFirst definition.now declared.now certificate.now) }
+    ensures yes { IfOk result (ClosedIfYes definition.now declared.now certificate.now) }
+    ensures headline { IfOk result (NoFaultIfYes definition.now declared.now certificate.now) }
+    ensures no { IfOk result (RejectedIfNo definition.now declared.now certificate.now) }
+    ensures refused { IfErr result (IsRefusalOf definition.now declared.now certificate.now) }
 {
     let machine = machine_text(alloc, definition)?;
     let declared = declared_text(alloc, declared)?;
     let mut certificate = certificate_text(alloc, certificate)?;
+    machine.is_shown();
     no_broken_rule_means_closed();
     closed_runs_never_fault();
     closed_runs_tell_no_fault();

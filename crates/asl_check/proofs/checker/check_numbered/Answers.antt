@@ -1,9 +1,8 @@
 use Rattle.std.proofs.Common.{IfOk, refl, subst}
 use Rattle.asl_model.specs.Certificate.{Certificate}
-use Rattle.asl_model.specs.Machine.{Scope}
 use Rattle.asl_model.specs.Verdict.{IsRight}
 use Rattle.asl_numbered.specs.Laws.{keeps_trans}
-use Rattle.asl_machine_table.specs.Table.{Shows, table_view}
+use Rattle.asl_machine_table.specs.Table.{scope_in, table_view}
 use Rattle.asl_records.proofs.Kept.{certificate_shown, certificate_within}
 use Rattle.asl_records.specs.View.{declared_view}
 use Rattle.asl_check.specs.Told.{listed, TellsFirst}
@@ -24,7 +23,7 @@ pub returns-clause-verdict : goal.returns-clause-verdict
 returns-clause-verdict c =
     let old = c.args.certificate.now in
     let same = certificate_shown old (in_table old c.add.new.self) c.add.ensures.keeps refl refl c.requires.within in
-    subst (λ (certificate : Certificate). IfOk c.verdict.result (λ verdict. (m : Scope) → Shows c.args.machine.now m → IsRight m (declared_view c.args.declared.now) certificate (verdict_view verdict))) same c.verdict.ensures.verdict
+    subst (λ (certificate : Certificate). IfOk c.verdict.result (λ verdict. IsRight (scope_in c.args.machine.now) (declared_view c.args.declared.now) certificate (verdict_view verdict))) same c.verdict.ensures.verdict
 
 pub returns-clause-same : goal.returns-clause-same
 returns-clause-same c = certificate_shown c.args.certificate.now (in_table c.args.certificate.now c.verdict.new.shapes) (keeps_trans _ _ _ c.add.ensures.keeps c.verdict.ensures.keeps) refl refl c.requires.within

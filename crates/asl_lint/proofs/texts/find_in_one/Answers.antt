@@ -7,7 +7,7 @@ use Rattle.asl_lint.proofs.texts.find_in_one.Goals as goal
 pub returns-in-Machine : goal.returns-in-Machine
 returns-in-Machine c =
     let read = subst (IsDefinition c.args.definition.now) c.in-Machine.is c.in_ok-read.ensures in
-    subst (λ ps. TellsOfOne c.args.definition.now (map told_by ps)) (sym c.new.ensures.items) (alone_reads read.reads)
+    subst (λ ps. TellsOfOne c.args.definition.now (map told_by ps)) (sym c.new.ensures.items) (alone_reads read)
 
 pub returns-in-Refused : goal.returns-in-Refused
 returns-in-Refused c =

@@ -19,4 +19,4 @@ returns-in_err-numbered-clause-refused c =
     handed_error c.from_residual.result c.in_err-numbered.field-0.0 (λ e. IsAmong (duplicate_complaints names ++ number_complaints names) (refusal_view e)) c.from_residual.ensures.1 (among_first (duplicate_complaints names) (number_complaints names) (refusal_view c.in_err-numbered.field-0.0) c.in_err-numbered.ensures.refused)
 
 pub returns-in-Ok-clause-table : goal.returns-in-Ok-clause-table
-returns-in-Ok-clause-table c = c.new-in-Ok.ensures.table ∙ table_held (map built_view c.args.rows.items) c.in_ok-numbered.numbered (map scope_view c.in-Ok.scopes.items) c.in_ok-numbered.ensures.numbered (c.in-Ok.ensures ∙ ap (map (λ h. placed_in (map string_bytes c.in_ok-numbered.numbered.names.keys) (home_view h))) c.deref.ensures.value)
+returns-in-Ok-clause-table c = table_held (map built_view c.args.rows.items) c.in_ok-numbered.numbered (map scope_view c.in-Ok.scopes.items) c.in_ok-numbered.ensures.numbered (c.in-Ok.ensures ∙ ap (map (λ h. placed_in (map string_bytes c.in_ok-numbered.numbered.names.keys) (home_view h))) c.deref.ensures.value)

@@ -1,6 +1,5 @@
 use Rattle.std.proofs.Common.{refl, ap, sym, ◌∙◌, subst, List, ℕ}
 use Rattle.asl_model.specs.Run.{activity_at}
-use Rattle.asl_machine_table.specs.Table.{table_view}
 use Rattle.asl_run.specs.Driving.{any_move}
 use Rattle.asl_run.specs.Nodes.{shown_at}
 use Rattle.asl_run.specs.Waiting.{NoneWaitsAt}
@@ -14,19 +13,19 @@ returns-in_default-clause-next g c = record { allowed = any_move; answered = ref
 
 pub returns-in-Ok-Some-clause-next : goal.returns-in-Ok-Some-clause-next
 returns-in-Ok-Some-clause-next g c =
-    let names = (table_view c.args.machine.now).names in
+    let names = c.args.machine.now.names in
     let asked = c.in-Some.asked in
     answer_comes_next (g.A.Answers.may_give c.args.answers.now) names c.args.place.items c.deref.result.now (shown_at names c.args.nodes.now 0) asked c.in-Ok-Some.answer (g.A.Answers.content c.args.answers.now) (g.A.Answers.content c.next.new.self)
     c.deref.ensures.value c.in-Some.ensures.found (rw c.in-Ok-Some.field-0-is at c.in-Ok-Some.ensures.given) (rw c.in-Ok-Some.field-0-is at c.in-Ok-Some.ensures.front)
 
 pub returns-in_default-clause-suited : goal.returns-in_default-clause-suited
-returns-in_default-clause-suited g c = λ m shows stands.
-    let a = shown_at (table_view c.args.machine.now).names c.args.nodes.now 0 in
-    move_suits c.args.place.items a (subst (λ (p : List ℕ). NoneWaitsAt p a) c.deref.ensures.value (c.in_default.ensures.none m shows stands))
+returns-in_default-clause-suited g c = λ stands.
+    let a = shown_at c.args.machine.now.names c.args.nodes.now 0 in
+    move_suits c.args.place.items a (subst (λ (p : List ℕ). NoneWaitsAt p a) c.deref.ensures.value (c.in_default.ensures.none stands))
 
 pub returns-in-Ok-Some-clause-suited : goal.returns-in-Ok-Some-clause-suited
-returns-in-Ok-Some-clause-suited g c = λ m shows stands.
-    let a = shown_at (table_view c.args.machine.now).names c.args.nodes.now 0 in
+returns-in-Ok-Some-clause-suited g c = λ stands.
+    let a = shown_at c.args.machine.now.names c.args.nodes.now 0 in
     let waits = c.in-Some.ensures.found in
     answer_suits (activity_at c.args.place.items a) c.in-Ok-Some.answer (record {
       name = c.in-Some.asked.name.now;

@@ -1,5 +1,6 @@
 use Rattle.std.proofs.Common.{Bor, List, ℕ, option_map}
 use Rattle.std.proofs.lemmas.Result.{err_from_is_err_and}
+use Rattle.asl_machine_table.specs.Table.{scope_in}
 use Rattle.asl_records.specs.View.{declared_view}
 use Rattle.asl_tree.specs.View.{view}
 use Rattle.asl_texts.specs.Runs.{texts_of}
@@ -13,7 +14,7 @@ returns-in_err-answers-clause-fault g c =
     let p = err_from_is_err_and c.from_residual-in_err-answers.result c.from_residual-in_err-answers.ensures.1 in
     rw (p.1, p.2) (answers_unread texts (g.S.Source.failed c.answers_in_source.new.source) c.in_err-answers.field-0.0
     (record {
-      before = record { before = record { machine = machine.definition; as_machine = machine.reads }; shapes = option_map declared_view c.in_ok-declared.declared; as_shapes = c.in_ok-declared.ensures.declared };
+      before = record { before = record { machine = scope_in c.in_ok-machine.machine; as_machine = machine }; shapes = option_map declared_view c.in_ok-declared.declared; as_shapes = c.in_ok-declared.ensures.declared };
       given = view c.in_ok-input.input;
       as_input = c.in_ok-input.ensures.tree;
     })

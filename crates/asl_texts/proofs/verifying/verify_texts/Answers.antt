@@ -1,5 +1,6 @@
 use Rattle.std.proofs.Common.{subst}
 use Rattle.std.proofs.lemmas.Result.{err_from_is_err_and}
+use Rattle.asl_machine_table.specs.Table.{scope_in}
 use Rattle.asl_model.specs.Numbering.{Table}
 use Rattle.asl_records.specs.Numbered.{numbered_view}
 use Rattle.asl_records.specs.View.{declared_view}
@@ -22,35 +23,34 @@ returns-in_err-declared-clause-refused c =
     let p = err_from_is_err_and c.from_residual-in_err-declared.result c.from_residual-in_err-declared.ensures.1 in
     let refused = IsRefused c.args.definition.now c.args.declared.now c.args.certificate.now in
     let machine = c.in_ok-machine.ensures.machine in
-    rw (p.1, p.2) (as_told refused DeclaredText (RefusesDeclared c.args.declared.now) c.in_err-declared.field-0.0 (λ f. declared-first c.args.definition.now c.args.declared.now c.args.certificate.now machine.definition f machine.reads) c.in_err-declared.ensures.refused)
+    rw (p.1, p.2) (as_told refused DeclaredText (RefusesDeclared c.args.declared.now) c.in_err-declared.field-0.0 (λ f. declared-first c.args.definition.now c.args.declared.now c.args.certificate.now (scope_in c.in_ok-machine.machine) f machine) c.in_err-declared.ensures.refused)
 
 pub returns-in_err-certificate-clause-refused : goal.returns-in_err-certificate-clause-refused
 returns-in_err-certificate-clause-refused c =
     let p = err_from_is_err_and c.from_residual-in_err-certificate.result c.from_residual-in_err-certificate.ensures.1 in
     let refused = IsRefused c.args.definition.now c.args.declared.now c.args.certificate.now in
     let machine = c.in_ok-machine.ensures.machine in
-    rw (p.1, p.2) (as_told refused CertificateText (RefusesCertificate c.args.certificate.now) c.in_err-certificate.field-0.0 (λ f. certificate-first c.args.definition.now c.args.declared.now c.args.certificate.now machine.definition (declared_view c.in_ok-declared.declared) f machine.reads c.in_ok-declared.ensures.declared) c.in_err-certificate.ensures.refused)
+    rw (p.1, p.2) (as_told refused CertificateText (RefusesCertificate c.args.certificate.now) c.in_err-certificate.field-0.0 (λ f. certificate-first c.args.definition.now c.args.declared.now c.args.certificate.now (scope_in c.in_ok-machine.machine) (declared_view c.in_ok-declared.declared) f machine c.in_ok-declared.ensures.declared) c.in_err-certificate.ensures.refused)
 
 pub returns-in-Ok-clause-verdict : goal.returns-in-Ok-clause-verdict
 returns-in-Ok-clause-verdict c = record {
-  machine = c.in_ok-machine.ensures.machine.definition;
+  machine = scope_in c.in_ok-machine.machine;
   shapes = declared_view c.in_ok-declared.declared;
   certified = numbered_view c.in_ok-certificate.certificate;
-  read = record { as_machine = c.in_ok-machine.ensures.machine.reads; as_declared = c.in_ok-declared.ensures.declared; as_certificate = c.in_ok-certificate.ensures.certificate };
-  right = c.in-Ok.ensures.verdict c.in_ok-machine.ensures.machine.definition c.in_ok-machine.ensures.machine.shown;
+  read = record { as_machine = c.in_ok-machine.ensures.machine; as_declared = c.in_ok-declared.ensures.declared; as_certificate = c.in_ok-certificate.ensures.certificate };
+  right = c.in-Ok.ensures.verdict;
 }
 
 pub returns-in-Ok-clause-first : goal.returns-in-Ok-clause-first
 returns-in-Ok-clause-first c =
     let shapes = declared_view c.in_ok-declared.declared in
     let certified = numbered_view c.in_ok-certificate.certificate in
-    let definition = c.in_ok-machine.ensures.machine.definition in
     record {
-      machine = definition;
+      machine = scope_in c.in_ok-machine.machine;
       shapes = shapes;
       certified = certified;
-      read = record { as_machine = c.in_ok-machine.ensures.machine.reads; as_declared = c.in_ok-declared.ensures.declared; as_certificate = c.in_ok-certificate.ensures.certificate };
-      first = subst (λ (table : Table). TellsFirst (listed table shapes certified) (verdict_view c.in-Ok.verdict)) c.in_ok-machine.ensures.machine.shown.table c.in-Ok.ensures.first;
+      read = record { as_machine = c.in_ok-machine.ensures.machine; as_declared = c.in_ok-declared.ensures.declared; as_certificate = c.in_ok-certificate.ensures.certificate };
+      first = subst (λ (table : Table). TellsFirst (listed table shapes certified) (verdict_view c.in-Ok.verdict)) c.is_shown.ensures.shown.table c.in-Ok.ensures.first;
     }
 
 pub returns-in-Ok-clause-yes : goal.returns-in-Ok-clause-yes
@@ -69,5 +69,5 @@ returns-in-Ok-clause-no c =
 
 pub returns-clause-refused : goal.returns-clause-refused
 returns-clause-refused c =
-    no_memory_to_check c.args.definition.now c.args.declared.now c.args.certificate.now c.in_ok-machine.ensures.machine.definition (declared_view c.in_ok-declared.declared)
-    c.in_ok-machine.ensures.machine.reads c.in_ok-declared.ensures.declared
+    no_memory_to_check c.args.definition.now c.args.declared.now c.args.certificate.now (scope_in c.in_ok-machine.machine) (declared_view c.in_ok-declared.declared)
+    c.in_ok-machine.ensures.machine c.in_ok-declared.ensures.declared

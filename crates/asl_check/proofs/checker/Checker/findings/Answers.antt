@@ -2,6 +2,7 @@ use Rattle.std.proofs.Common.{IfOk, Result, Ok, Err, ap, ◌∙◌, subst}
 use Rattle.std.specs.List.{Contains}
 use Rattle.std.proofs.lemmas.Result.{IfOk-weaker}
 use Rattle.asl_numbered.specs.Laws.{keeps_trans}
+use Rattle.asl_machine_table.specs.Table.{scope_in}
 use Rattle.asl_records.specs.View.{declared_view}
 use Rattle.asl_check.specs.Listing.{rules_view}
 use Rattle.asl_check.specs.Numbers.{certificate_of}
@@ -18,14 +19,15 @@ pub returns-clause-listed : goal.returns-clause-listed
 returns-clause-listed c =
     IfOk-weaker c.tell_each.result _ _ (λ findings told. told ∙ (ap (rules_view c.list_all.new.shapes) c.deref.ensures.value ∙ c.in_ok-rules.ensures.listed)) c.tell_each.ensures.told
 
--- each is listed, so it stands in every machine that the table shows
+-- each is listed, so it stands
 pub returns-clause-exactly : goal.returns-clause-exactly
 returns-clause-exactly c =
     let checker = c.args.self.now in
+    let machine = scope_in checker.machine.now in
     let declared = declared_view checker.declared.now in
     let certificate = certificate_of c.args.shapes.now checker in
     let listed = ap (rules_view c.list_all.new.shapes) c.deref.ensures.value ∙ c.in_ok-rules.ensures.listed in
-    of_two c.tell_each.result (λ all told located. λ m shows. exactly all.items (λ f among. c.findings_are_exactly_the_broken_rules.ensures.shown m declared certificate f (each_stands checker.machine.now m shows declared certificate f (subst (λ rules. Contains rules f) (told ∙ listed) among))) located) c.tell_each.ensures.told c.tell_each.ensures.located
+    of_two c.tell_each.result (λ all told located. exactly all.items (λ f among. c.findings_are_exactly_the_broken_rules.ensures.shown machine declared certificate f (each_stands checker.machine.now machine c.is_shown.ensures.shown declared certificate f (subst (λ rules. Contains rules f) (told ∙ listed) among))) located) c.tell_each.ensures.told c.tell_each.ensures.located
 
 pub returns-clause-keeps : goal.returns-clause-keeps
 returns-clause-keeps c = keeps_trans _ _ _ c.in_ok-rules.ensures.keeps c.tell_each.ensures.keeps

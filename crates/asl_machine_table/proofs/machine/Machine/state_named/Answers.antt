@@ -3,4 +3,5 @@ use Rattle.asl_states.proofs.Positions.{position-map}
 use Rattle.asl_machine_table.proofs.machine.Machine.state_named.Goals as goal
 
 pub returns : goal.returns
-returns c = record { number = c.get_index_of.ensures.index ∙ sym (position-map (bytes_eq c.args.name.now) string_bytes c.args.self.now.names.keys) }
+returns c =
+    rw (← c.self.view_is) (record { number = c.get_index_of.ensures.index ∙ sym (position-map (bytes_eq c.args.name.now) string_bytes c.self.inside.names.keys) })
