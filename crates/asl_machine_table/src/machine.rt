@@ -80,14 +80,14 @@ impl Machine {
 
     /// The number of the state of that name.
     pub fn state_named(&self, name: &str) -> Option<usize>
-        ensures number { result ≡ position (bytes_eq name.now) self.now.names }
+        ensures number { result ≡ position (bytes_eq name.now) (table_view self.now).names }
     {
         self.names.get_index_of(name)
     }
 
     /// How many states there are.
     pub fn states(&self) -> usize
-        ensures number { result ≡ length self.now.states }
+        ensures number { result ≡ length (table_view self.now).states }
     {
         self.states.len()
     }
@@ -103,7 +103,8 @@ impl Machine {
 
     /// The name of the state of that number.
     pub fn name(&self, number: usize) -> Option<&str>
-        ensures name { option_map (λ n. n.now) result ≡ slice_get self.now.names number }
+        ensures name { option_map (λ n. n.now) result
+            ≡ slice_get (table_view self.now).names number }
     {
         match self.names.get_index(number) {
             Some(name) => Some(name),
