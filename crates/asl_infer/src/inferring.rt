@@ -7,6 +7,7 @@ ghost use Rattle.asl_model.specs.Certificate as certificates;
 ghost use Rattle.asl_model.specs.Certificate.{IsClosed};
 ghost use Rattle.asl_model.specs.Finding as findings;
 ghost use Rattle.asl_model.specs.Json.{value_of};
+ghost use Rattle.asl_model.specs.Machine as machines;
 ghost use Rattle.asl_model.specs.Numbering.{IsWellNamed, table_of};
 ghost use Rattle.asl_model.specs.RecordShapes.{HoldsForCertificate};
 ghost use Rattle.asl_model.specs.Shape.{IsOrdered};
