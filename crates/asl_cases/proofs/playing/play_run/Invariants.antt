@@ -13,9 +13,9 @@ use Rattle.asl_cases.proofs.playing.play_run.Given as goal
 -- the steps so far have played the case, and its run goes on
 abbrev pub invariant-steps : goal.invariant-steps
 invariant-steps l = record {
-  machine : l.run.machine ≡ l.machine.now;
-  plays : Plays (scope_in l.machine.now) (option_map (λ (d : Bor Declared). declared_view d.now) l.fn.declared) l._taken
-      (begun (case_of (scope_in l.machine.now) (option_map (λ (d : Bor Declared). declared_view d.now) l.fn.declared) (view l.fn.input) (answers_under l.fn.answers)))
+  machine : l.run.machine ≡ l.machine;
+  plays : Plays (scope_in l.machine) (option_map (λ (d : Bor Declared). declared_view d.now) l.fn.declared) l._taken
+      (begun (case_of (scope_in l.machine) (option_map (λ (d : Bor Declared). declared_view d.now) l.fn.declared) (view l.fn.input) (answers_under l.fn.answers)))
       (stage_of (run_view l.run) (answers_under l.answers) (map entry_view l.trace.items));
   goes_on : outcome_of (run_view l.run) ≡ None;
 }

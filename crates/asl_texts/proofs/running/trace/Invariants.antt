@@ -13,9 +13,9 @@ use Rattle.asl_texts.proofs.running.trace.Given as goal
 -- the steps so far have driven the run, and what happened is written
 abbrev pub invariant-steps : goal.invariant-steps
 invariant-steps g l = record {
-  machine : l.run.machine ≡ l.machine.now;
-  written : Written (policy_of (g.O.Order.may_pick l.fn.order) (g.A.Answers.may_give l.fn.answers) (g.A.Answers.may_be_silent l.fn.answers l.answers)) (scope_in l.machine.now) l._taken
-      (begun (scope_in l.machine.now) (view l.fn.input) (g.A.Answers.content l.fn.answers)) (lines_text l.lines) (run_view l.run) (g.A.Answers.content l.answers);
+  machine : l.run.machine ≡ l.machine;
+  written : Written (policy_of (g.O.Order.may_pick l.fn.order) (g.A.Answers.may_give l.fn.answers) (g.A.Answers.may_be_silent l.fn.answers l.answers)) (scope_in l.machine) l._taken
+      (begun (scope_in l.machine) (view l.fn.input) (g.A.Answers.content l.fn.answers)) (lines_text l.lines) (run_view l.run) (g.A.Answers.content l.answers);
   goes_on : outcome_of (run_view l.run) ≡ None;
   lasting_order : (n k : ℕ) → g.O.Order.may_pick l.order n k → g.O.Order.may_pick l.fn.order n k;
   lasting : (n : List ℕ) (t : Tree) (answer : Action) → g.A.Answers.may_give l.answers n t answer → g.A.Answers.may_give l.fn.answers n t answer;
