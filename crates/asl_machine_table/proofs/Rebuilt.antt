@@ -18,6 +18,8 @@ use Rattle.asl_model.proofs.NumberedRows.{leads_to_row, one_number}
 use Rattle.asl_model.proofs.NumberedScopes.{IsListed}
 use Rattle.asl_model.proofs.NumberedStates.{StandsAt, stands_at, number_found}
 use Rattle.asl_model.proofs.RunOptions.{some_inj, none_some}
+use Rattle.asl_machine_table.specs.Held.{Held}
+use Rattle.asl_machine_table.specs.Table.{Shows, scope_in}
 use Rattle.asl_machine_table.specs.Rebuilding.{Row, rows_of, same_owner, Made, made_then, made_into}
 use Rattle.asl_machine_table.specs.Rebuilding.{scope_with, scopes_with, kind_with, state_with, states_from, first_start, machine_of}
 
@@ -369,3 +371,7 @@ start-made start (AndState n state others) well = start-named start (AndState n 
 -- a well-named machine is the one that is built of its table
 pub rebuilt : (m : Scope) → IsWellNamed m → machine_of (table_of m) ≡ m
 rebuilt (ScopeOf start held) well = ap₂ (λ s h. ScopeOf s h) (start-made start held well) (held-made start held well)
+
+-- of all machines, one alone has its table
+pub alone : (held : Held) (m : Scope) → Shows held m → m ≡ scope_in held
+alone held m shows = sym (rebuilt m shows.well_named) ∙ ap machine_of (sym shows.table)

@@ -1,6 +1,7 @@
 //! Machines: one table of states, by number and by name.
 
-ghost use Rattle.std.specs.Prelude.{◌≡◌, IfSome, length, option_map, slice_get, position, bytes_eq, map, string_bytes};
+ghost use Rattle.std.specs.Prelude.{◌≡◌, length, option_map, slice_get, position, bytes_eq, map, string_bytes};
+ghost use Rattle.asl_model.specs.Machine as model;
 ghost use Rattle.asl_machine_table.specs.Table.{IsWhole, Shows, scope_in, states_in, table_view};
 ghost use Rattle.asl_states.specs.Machine.{state_view, scope_view};
 
@@ -71,8 +72,10 @@ impl Machine {
     }
 
     /// The machine shows one of the definitions, and one alone. Reads nothing, and takes no memory.
+    #[tactic(auto, using(crate::proofs::Rebuilt::alone))]
     pub fn is_shown(&self)
         ensures shown { Shows self.now (scope_in self.now) }
+        ensures alone { (m : model.Scope) → Shows self.now m → m ≡ scope_in self.now }
     {
         // The field is named for what is always true of it; nothing is read.
         let _ = &self.names;
