@@ -82,12 +82,6 @@ pub acted : {E : Type 0} (happening : Happening) (node : Node) (children : List 
 acted happening node children here r same found plans =
     subst (λ h. IfOk r (λ plan. (below : List model.Activity) → AreHeads (names_for h) children below → Acts h (children_of below) node plan)) same (acted_here node children here r found plans)
 
--- what holds over any children holds over those of a node
-pub over_any : {A E : Type 0} (r : Result A E) (names : List (List ℕ)) (children : List Node) (holds : A → model.Activities → Type 0) → IfOk r (λ a. (below : model.Activities) → holds a below)
-    → IfOk r (λ a. (below : List model.Activity) → AreHeads names children below → holds a (children_of below))
-over_any (Ok a) names children holds so = λ below heads. so (children_of below)
-over_any (Err e) names children holds so = tt
-
 -- none where it isn't found
 pub acts_not : (happening : Happening) (below : model.Activities) (node : Node) → DoesNothing happening.machine.now node → Acts happening below node None
 acts_not happening below node none = record { planned = tt; nothing = λ e state there. none.nothing below (action_of happening) state there }

@@ -137,11 +137,6 @@ abbrev pub moves_at : Here → model.Activities → Node → model.Action → Op
 moves_at here below node action =
     by_state (moves_as (shown_over (names_at here) below node) action) here
 
--- the same where the execution here waits for an answer
-abbrev pub takes_at : Here → model.Action → Option model.Step
-takes_at here action =
-    by_state (λ n state raw counts. model.moves_waiting n raw counts action state) here
-
 -- the execution stands in the node: what an action does there, it does for that execution
 pub record IsVisitOf (node : Node) (visit : Visit) : Type 0 where
   pub stands : visit_in node ≡ Some visit

@@ -2,9 +2,8 @@
 
 ghost use Rattle.std.specs.Prelude.{◌≡◌, List, IfOk, IfSome, None};
 ghost use Rattle.asl_model.specs.Run as model;
-ghost use Rattle.asl_run.specs.Acting.{Acts, DoesNothing, HasNoVisit, IsFoundIn, IsVisitOf, Plans, PlansAs, PlansOne};
-ghost use Rattle.asl_run.specs.Acting.{action_of, by_settings, moves_at, names_at, names_for, takes_at};
-ghost use Rattle.asl_run.specs.Entries.{answer_view};
+ghost use Rattle.asl_run.specs.Acting.{Acts, DoesNothing, HasNoVisit, IsFoundIn, IsVisitOf, Plans, PlansAs};
+ghost use Rattle.asl_run.specs.Acting.{action_of, by_settings, moves_at, names_at, names_for};
 ghost use Rattle.asl_run.specs.Nodes.{AreHeads};
 ghost use Rattle.asl_run.specs.Standing.{children_of};
 
@@ -33,7 +32,7 @@ impl<'h, 'm> Happening<'h, 'm> {
             → Acts self.entry (children_of below) node.now plan) }
     {
         match self.find(node) {
-            Some(here) => act(&here, node, children),
+            Some(here) => here.act(node, children),
             None => Ok(None),
         }
     }
@@ -70,73 +69,27 @@ fn visit_of(node: &Node) -> Option<&Visit>
     }
 }
 
-/// What is to be done where that execution stands.
-#[tactic(auto, using(crate::proofs::Acted::over_any))]
-fn act<'m>(
-    here: &Here<'_, 'm>,
-    node: &Node,
-    children: &[Node],
-) -> Result<Option<Plan<'m>>, OutOfMemory>
-    ensures { IfOk result (λ plan. (below : List model.Activity)
-        → AreHeads (names_at here.now) children.now below
-        → PlansAs here.now plan (moves_at here.now (children_of below) node.now
-        (action_of here.now.happening))) }
-{
-    match here.happening.answer {
-        Some(answer) => take(here, node, answer),
-        None => make_move(here, node, children),
-    }
-}
-
-/// What a move is to do there.
-fn make_move<'m>(
-    here: &Here<'_, 'm>,
-    node: &Node,
-    children: &[Node],
-) -> Result<Option<Plan<'m>>, OutOfMemory>
-    ensures { IfOk result (λ plan. (below : List model.Activity)
-        → AreHeads (names_at here.now) children.now below
-        → PlansAs here.now plan (moves_at here.now (children_of below) node.now model.Move)) }
-{
-    match node {
-        Node::Ready(_) => {
-            let entered = enter(here)?;
-            Ok(Some(entered))
+impl<'m> Here<'_, 'm> {
+    /// What is to be done where that execution stands, in that node over these children; none where what happens isn't
+    /// enabled there.
+    fn act(&self, node: &Node, children: &[Node]) -> Result<Option<Plan<'m>>, OutOfMemory>
+        ensures { IfOk result (λ plan. (below : List model.Activity)
+            → AreHeads (names_at self.now) children.now below
+            → PlansAs self.now plan (moves_at self.now (children_of below) node.now
+            (action_of self.now.happening))) }
+    {
+        match (self.happening.answer, node) {
+            (None, Node::Ready(_)) => Ok(Some(enter(self)?)),
+            (None, Node::Split { .. }) => join(self, children),
+            (None, Node::Waiting { .. } | Node::Ended(_)) => Ok(None),
+            (Some(Answer::Gives(value)), Node::Waiting { .. }) => {
+                Ok(Some(finish(self, Data::Shared(value))?))
+            }
+            (Some(Answer::Fails { error, cause }), Node::Waiting { .. }) => {
+                Ok(Some(fail(self, error, cause)?))
+            }
+            (Some(_), Node::Ready(_) | Node::Split { .. } | Node::Ended(_)) => Ok(None),
         }
-        Node::Split { .. } => join(here, children),
-        Node::Waiting { .. } => Ok(None),
-        Node::Ended(_) => Ok(None),
-    }
-}
-
-/// What an answer is to do there.
-fn take<'m>(
-    here: &Here<'_, 'm>,
-    node: &Node,
-    answer: &Answer,
-) -> Result<Option<Plan<'m>>, OutOfMemory>
-    ensures { IfOk result (λ plan. (below : model.Activities)
-        → PlansAs here.now plan (moves_at here.now below node.now (answer_view answer.now))) }
-{
-    match node {
-        Node::Waiting { .. } => {
-            let taken = take_on(here, answer)?;
-            Ok(Some(taken))
-        }
-        Node::Ready(_) => Ok(None),
-        Node::Split { .. } => Ok(None),
-        Node::Ended(_) => Ok(None),
-    }
-}
-
-/// The Task takes the answer that it waits for.
-fn take_on<'m>(here: &Here<'_, 'm>, answer: &Answer) -> Result<Plan<'m>, OutOfMemory>
-    ensures { IfOk result
-        (λ plan. PlansOne here.now plan (takes_at here.now (answer_view answer.now))) }
-{
-    match answer {
-        Answer::Gives(value) => finish(here, Data::Shared(value)),
-        Answer::Fails { error, cause } => fail(here, error, cause),
     }
 }
 
