@@ -46,34 +46,49 @@ class Maker:
     def path(self, most=2):
         """A path of up to so many fields."""
         names = [self.pick(FIELDS) if self.chance(97) else "z" for _ in range(self.random.randint(0, most))]
-        return "$" + "".join(f".{it}" for it in names) + ("[0]" if self.chance(3) else "")
+        return "$" + "".join(f"['{it}']" if self.chance(5) else f".{it}" for it in names) + ("[0]" if self.chance(3) else "")
 
     def literal(self):
         return self.pick([1, "x", True, None, [], [1, "x"], {}, {"a": 1}, {"a": {"b": 2}, "c": "y"}])
 
-    def template(self):
-        """A payload template."""
+    def call(self, depth=0):
+        """A call of an intrinsic function."""
+        inner = self.call(1) if depth == 0 and self.chance(20) else self.path(1)
+        return self.pick([
+            f"States.Array({inner}, 7)", f"States.Array('x', {inner}, true)", f"States.Format('{{}}', {inner})",
+            f"States.Format('{{}} of {{}}', {self.path(1)}, 12)", "States.Format('x')",
+            f"States.ArrayLength(States.Array({inner}))", f"States.ArrayLength({self.path(1)})",
+        ])
+
+    def template(self, items=(), depth=0):
+        """A payload template; `items` are paths that it may have beside its own."""
         made = {}
         for it in FIELDS:
-            if self.chance(60):
+            if self.chance(60 - 20 * depth):
                 name, value = self.pick([
-                    (it, self.literal()), (f"{it}.$", self.path(1)), (f"{it}.$", self.path(1)),
-                    (f"{it}.$", f"States.Array({self.path(1)}, 7)"),
-                    (f"{it}.$", f"States.Format('{{}}', {self.path(1)})"),
+                    (it, self.literal()), (f"{it}.$", self.path(1)), (f"{it}.$", self.path(1)), (f"{it}.$", self.call()),
+                    (f"{it}.$", self.call()), *[(f"{it}.$", of) for of in items],
                 ])
+                if depth < 2 and self.chance(15):
+                    name, value = it, self.template(items, depth + 1)
+                    value = [value, self.literal()] if self.chance(20) else value
                 made[name] = value
         return made
 
-    def rule(self):
+    def rule(self, depth=0):
         """A choice rule without its `Next`."""
         variable = {"Variable": self.path(1)}
+        order = self.pick(["Equals", "LessThan", "GreaterThan", "LessThanEquals", "GreaterThanEquals"])
         tests = [
-            {"IsPresent": self.chance(70)}, {"IsNull": self.chance(50)}, {"IsString": True}, {"IsNumeric": True},
-            {"NumericEquals": 1}, {"StringMatches": "x*"}, {"BooleanEquals": True},
+            {"IsPresent": self.chance(70)}, {"IsPresent": self.chance(70)}, {"IsNull": self.chance(50)},
+            {"IsString": self.chance(80)}, {"IsNumeric": self.chance(80)}, {"IsBoolean": self.chance(80)},
+            {f"Numeric{order}": 1}, {f"String{order}": "x"}, {"StringMatches": self.pick(["x*", "*", "*y", "x"])},
+            {"BooleanEquals": True}, {f"Numeric{order}Path": self.path(1)}, {f"String{order}Path": self.path(1)},
         ]
         test = {**variable, **self.pick(tests)}
-        if self.chance(20):
-            return {self.pick(["And", "Or"]): [{**variable, "IsPresent": True}, test]}
+        if depth == 0 and self.chance(20):
+            inner = test if self.chance(70) else self.rule(1)
+            return {self.pick(["And", "Or"]): [{**variable, "IsPresent": True}, inner]}
         return {"Not": test} if self.chance(10) else test
 
     def data_fields(self, *names):
@@ -131,7 +146,9 @@ class Maker:
             made["Branches"] = [self.scope(depth + 1) for _ in range(self.random.randint(1, 2))]
         else:
             made["ItemsPath"] = self.path(1)
-            made["ItemProcessor"] = self.scope(depth + 1)
+            if self.chance(40):
+                made["ItemSelector"] = self.template(["$$.Map.Item.Value", "$$.Map.Item.Index", "$$.Map.Item.Value.a"])
+            made[self.pick(["ItemProcessor", "ItemProcessor", "Iterator"])] = self.scope(depth + 1)
         return made
 
     def scope(self, depth):
