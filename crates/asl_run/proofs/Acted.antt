@@ -5,7 +5,7 @@ use Rattle.asl_model.specs.Machine.{State}
 use Rattle.asl_model.specs.Run as model
 use Rattle.asl_model.proofs.RunOptions.{some_inj}
 use Rattle.asl_tree.specs.View.{view}
-use Rattle.asl_run.specs.Acting.{Acts, DoesNothing, IsAt, IsFoundIn, IsVisitOf, Plans, PlansAs, StandsAt, action_of, moves, moves_as, moves_at, names_at, names_for, state_at}
+use Rattle.asl_run.specs.Acting.{Acts, DoesNothing, IsAt, IsFoundIn, IsVisitOf, Plans, PlansAs, StandsAt, moves, moves_as, moves_at, names_at, state_at}
 use Rattle.asl_run.specs.Changing.{visit_in}
 use Rattle.asl_run.specs.Nodes.{AreHeads, shown_over}
 use Rattle.asl_run.specs.Standing.{children_of, name_in}
@@ -14,7 +14,6 @@ use Rattle.asl_run.specs.declared.activities.Visit.{Visit}
 use Rattle.asl_run.specs.declared.nodes.Node.{Node}
 use Rattle.asl_run.specs.declared.planning.Here.{Here}
 use Rattle.asl_run.specs.declared.planning.Plan.{Plan}
-use Rattle.asl_run.specs.declared.stepping.Happening.{Happening}
 
 -- a plan of a step is one
 pub planned_as : (here : Here) (plan : Plan) (step : model.Step) → Plans here plan step → PlansAs here (Some plan) (Some step)
@@ -28,7 +27,7 @@ stands_there machine node visit state found there = subst (λ v. IfSome v (λ w.
 
 -- where its state stands, as it was found
 abbrev FoundAt : Here → State → Type 0
-FoundAt here = StandsAt here.happening.machine.now here.visit.now
+FoundAt here = StandsAt here.machine.now here.visit.now
 
 found_name : (node : Node) (here : Here) (state : State) → IsFoundIn node here → FoundAt here state → here.name.now ≡ name_in (names_at here) here.visit.now.state
 found_name node here state found stands = some_inj (sym found.name ∙ stands.name)
@@ -48,8 +47,8 @@ same_step below node action here state found stands =
     ∙ ap (λ n. moves_as shown action n state (view here.visit.now.raw.value) here.visit.now.counts.items) (sym (found_name node here state found stands))
     ∙ ap (λ s. moves_as shown action here.name.now s (view here.visit.now.raw.value) here.visit.now.counts.items) (sym (found_state node here state found stands))
 
-acts_as_planned : (below : model.Activities) (node : Node) (here : Here) (plan : Option Plan) → IsFoundIn node here → PlansAs here plan (moves_at here below node (action_of here.happening)) → Acts here.happening below node plan
-acts_as_planned below node here (Some plan) found plans =
+acts_as_planned : (action : model.Action) (below : model.Activities) (node : Node) (here : Here) (plan : Option Plan) → IsFoundIn node here → PlansAs here plan (moves_at here below node action) → Acts here.machine.now here.at.now action below node plan
+acts_as_planned action below node here (Some plan) found plans =
     let one = plans.planned in
     record {
       planned = record {
@@ -58,30 +57,27 @@ acts_as_planned below node here (Some plan) found plans =
         rises = λ v i e f. subst (λ (w : Visit). CanRise w.counts.items i) (some_inj (sym found.visit.stands ∙ e)) (one.plans.rises i f);
         does = λ state there. record {
           that = one.that;
-          is = same_step below node (action_of here.happening) here state found there ∙ one.is;
+          is = same_step below node action here state found there ∙ one.is;
           does = record { told = one.plans.told; left = one.plans.left (found_at node here state found there) };
         };
       };
       nothing = λ e. absurd (cc);
     }
-acts_as_planned below node here None found plans = record {
+acts_as_planned action below node here None found plans = record {
   planned = tt;
-  nothing = λ e state there. same_step below node (action_of here.happening) here state found (stands_there here.happening.machine.now node here.visit.now state found.visit there) ∙ plans.nothing refl;
+  nothing = λ e state there. same_step below node action here state found (stands_there here.machine.now node here.visit.now state found.visit there) ∙ plans.nothing refl;
 }
 
-acted_here : {E : Type 0} (node : Node) (children : List Node) (here : Here) (r : Result (Option Plan) E) → IsFoundIn node here
-    → IfOk r (λ plan. (below : List model.Activity) → AreHeads (names_at here) children below → PlansAs here plan (moves_at here (children_of below) node (action_of here.happening)))
-    → IfOk r (λ plan. (below : List model.Activity) → AreHeads (names_at here) children below → Acts here.happening (children_of below) node plan)
-acted_here node children here (Ok plan) found plans = λ below heads. acts_as_planned (children_of below) node here plan found (plans below heads)
-acted_here node children here (Err e) found plans = tt
-
 -- a plan that was made where the execution was found
-pub acted : {E : Type 0} (happening : Happening) (node : Node) (children : List Node) (here : Here) (r : Result (Option Plan) E) → here.happening ≡ happening → IsFoundIn node here
-    → IfOk r (λ plan. (below : List model.Activity) → AreHeads (names_at here) children below → PlansAs here plan (moves_at here (children_of below) node (action_of here.happening)))
-    → IfOk r (λ plan. (below : List model.Activity) → AreHeads (names_for happening) children below → Acts happening (children_of below) node plan)
-acted happening node children here r same found plans =
-    subst (λ h. IfOk r (λ plan. (below : List model.Activity) → AreHeads (names_for h) children below → Acts h (children_of below) node plan)) same (acted_here node children here r found plans)
+pub acted : {E : Type 0} (machine : Machine) (at : List ℕ) (action : model.Action) (node : Node) (children : List Node) (here : Here) (r : Result (Option Plan) E) → here.machine.now ≡ machine → here.at.now ≡ at → IsFoundIn node here
+    → IfOk r (λ plan. (below : List model.Activity) → AreHeads (names_at here) children below → PlansAs here plan (moves_at here (children_of below) node action))
+    → IfOk r (λ plan. (below : List model.Activity) → AreHeads machine.names children below → Acts machine at action (children_of below) node plan)
+acted machine at action node children here (Ok plan) same placed found plans = λ below heads.
+    subst (λ (m : Machine). Acts m at action (children_of below) node plan) same
+    (subst (λ p. Acts here.machine.now p action (children_of below) node plan) placed
+    (acts_as_planned action (children_of below) node here plan found (plans below (subst (λ (m : Machine). AreHeads m.names children below) (sym same) heads))))
+acted machine at action node children here (Err e) same placed found plans = tt
 
 -- none where it isn't found
-pub acts_not : (happening : Happening) (below : model.Activities) (node : Node) → DoesNothing happening.machine.now node → Acts happening below node None
-acts_not happening below node none = record { planned = tt; nothing = λ e state there. none.nothing below (action_of happening) state there }
+pub acts_not : (machine : Machine) (at : List ℕ) (action : model.Action) (below : model.Activities) (node : Node) → DoesNothing machine node → Acts machine at action below node None
+acts_not machine at action below node none = record { planned = tt; nothing = λ e state there. none.nothing below action state there }

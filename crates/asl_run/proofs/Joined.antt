@@ -199,7 +199,7 @@ not_joined here below far =
 
 -- a child has failed: the state is in trouble
 pub broken_off : {E F : Type 0} (here : Here) (r : Result Plan E) (before : Plan) (made : Result Entry F) (i : ℕ) (error cause joined : List ℕ) → joined ≡ model.join_error (kind_view here.state.now.kind) error → Plans here before (by_settings model.troubled here joined cause)
-    → IfOk r (λ p. IsOkAnd made (λ m. p.entries.items ≡ m ∷ before.entries.items)) → IfOk r (λ p. p.change ≡ before.change) → IfOk made (λ m. entry_view m ≡ told_at here.happening.at.now (model.BranchFailed here.name.now i error cause))
+    → IfOk r (λ p. IsOkAnd made (λ m. p.entries.items ≡ m ∷ before.entries.items)) → IfOk r (λ p. p.change ≡ before.change) → IfOk made (λ m. entry_view m ≡ told_at here.at.now (model.BranchFailed here.name.now i error cause))
     → IfOk r (λ p. Plans here p (model.entry_then (model.BranchFailed here.name.now i error cause) (by_settings model.troubled here (model.join_error (kind_view here.state.now.kind) error) cause)))
 broken_off here r before made i error cause joined is plans first same told =
     preceded_so here r before made (model.BranchFailed here.name.now i error cause) (by_settings model.troubled here (model.join_error (kind_view here.state.now.kind) error) cause) first same told

@@ -54,17 +54,17 @@ begun here plan change after none is leaves = record {
 }
 
 -- with one more entry in front
-pub preceded : (here : Here) (plan before : Plan) (made : Entry) (entry : model.Entry) (step : model.Step) → plan.entries.items ≡ made ∷ before.entries.items → plan.change ≡ before.change → entry_view made ≡ told_at here.happening.at.now entry → Plans here before step
+pub preceded : (here : Here) (plan before : Plan) (made : Entry) (entry : model.Entry) (step : model.Step) → plan.entries.items ≡ made ∷ before.entries.items → plan.change ≡ before.change → entry_view made ≡ told_at here.at.now entry → Plans here before step
     → Plans here plan (model.entry_then entry step)
 preceded here plan before made entry step first same told plans = record {
-  told = ap (map entry_view) first ∙ ap (λ e. e ∷ map entry_view before.entries.items) told ∙ ap (λ es. told_at here.happening.at.now entry ∷ es) plans.told;
+  told = ap (map entry_view) first ∙ ap (λ e. e ∷ map entry_view before.entries.items) told ∙ ap (λ es. told_at here.at.now entry ∷ es) plans.told;
   left = λ stands. ap (changed (names_at here) here.visit.now) same ∙ plans.left stands;
   rises = λ i e. plans.rises i (sym same ∙ e);
 }
 
 -- with an entry alone
 pub told_once : (here : Here) (plan before : Plan) (made : Entry) (entry : model.Entry) (change : Change) (after : model.Activity) → before.entries.items ≡ [] → before.change ≡ change → plan.entries.items ≡ made ∷ before.entries.items → plan.change ≡ before.change
-    → entry_view made ≡ told_at here.happening.at.now entry → Leaves here change after → Plans here plan (record { entries = entry ∷ []; after = after })
+    → entry_view made ≡ told_at here.at.now entry → Leaves here change after → Plans here plan (record { entries = entry ∷ []; after = after })
 told_once here plan before made entry change after none is first same told leaves =
     preceded here plan before made entry (record { entries = []; after = after }) first same told (begun here before change after none is leaves)
 
@@ -89,14 +89,14 @@ with_premise here (Err e) premise step plans = tt
 
 -- one more entry in front
 pub preceded_so : {E F : Type 0} (here : Here) (r : Result Plan E) (before : Plan) (made : Result Entry F) (entry : model.Entry) (step : model.Step) → IfOk r (λ p. IsOkAnd made (λ m. p.entries.items ≡ m ∷ before.entries.items)) → IfOk r (λ p. p.change ≡ before.change)
-    → IfOk made (λ m. entry_view m ≡ told_at here.happening.at.now entry) → Plans here before step → IfOk r (λ p. Plans here p (model.entry_then entry step))
+    → IfOk made (λ m. entry_view m ≡ told_at here.at.now entry) → Plans here before step → IfOk r (λ p. Plans here p (model.entry_then entry step))
 preceded_so here (Ok p) before (Ok made) entry step first same told plans = preceded here p before made entry step first same told plans
 preceded_so here (Ok p) before (Err e) entry step first same told plans = absurd first
 preceded_so here (Err e) before made entry step first same told plans = tt
 
 -- an entry alone
 pub told_so : {E F : Type 0} (here : Here) (r : Result Plan E) (before : Plan) (made : Result Entry F) (entry : model.Entry) (change : Change) (after : model.Activity) → before.entries.items ≡ [] → before.change ≡ change
-    → IfOk r (λ p. IsOkAnd made (λ m. p.entries.items ≡ m ∷ before.entries.items)) → IfOk r (λ p. p.change ≡ before.change) → IfOk made (λ m. entry_view m ≡ told_at here.happening.at.now entry) → Leaves here change after
+    → IfOk r (λ p. IsOkAnd made (λ m. p.entries.items ≡ m ∷ before.entries.items)) → IfOk r (λ p. p.change ≡ before.change) → IfOk made (λ m. entry_view m ≡ told_at here.at.now entry) → Leaves here change after
     → IfOk r (λ p. Plans here p (record { entries = entry ∷ []; after = after }))
 told_so here (Ok p) before (Ok made) entry change after none is first same told leaves = told_once here p before made entry change after none is first same told leaves
 told_so here (Ok p) before (Err e) entry change after none is first same told leaves = absurd first
@@ -104,7 +104,7 @@ told_so here (Err e) before made entry change after none is first same told leav
 
 -- the scope ends
 pub ended_so : {E F : Type 0} (here : Here) (r : Result Plan E) (before : Plan) (made : Result Entry F) (outcome : Outcome) (told_as : model.Outcome) (after : model.Activity) → ended_view outcome ≡ after → before.entries.items ≡ [] → before.change ≡ End outcome
-    → IfOk r (λ p. IsOkAnd made (λ m. p.entries.items ≡ m ∷ before.entries.items)) → IfOk r (λ p. p.change ≡ before.change) → IfOk made (λ m. entry_view m ≡ told_at here.happening.at.now (model.Ended told_as))
+    → IfOk r (λ p. IsOkAnd made (λ m. p.entries.items ≡ m ∷ before.entries.items)) → IfOk r (λ p. p.change ≡ before.change) → IfOk made (λ m. entry_view m ≡ told_at here.at.now (model.Ended told_as))
     → IfOk r (λ p. Plans here p (record { entries = model.Ended told_as ∷ []; after = after }))
 ended_so here r before made outcome told_as after seen none is first same told =
     told_so here r before made (model.Ended told_as) (End outcome) after none is first same told (record { left = λ stands. seen; rises = λ i e. absurd (cc) })
@@ -120,7 +120,7 @@ troubled_so here (Err e) error cause counts met trouble seen same is plans = tt
 
 -- a retrier retries
 pub retried_so : {E F : Type 0} (here : Here) (r : Result Plan E) (before : Plan) (made : Result Entry F) (i : ℕ) → CanRise here.visit.now.counts.items i → before.entries.items ≡ [] → before.change ≡ Retry i
-    → IfOk r (λ p. IsOkAnd made (λ m. p.entries.items ≡ m ∷ before.entries.items)) → IfOk r (λ p. p.change ≡ before.change) → IfOk made (λ m. entry_view m ≡ told_at here.happening.at.now (model.Retried here.name.now i))
+    → IfOk r (λ p. IsOkAnd made (λ m. p.entries.items ≡ m ∷ before.entries.items)) → IfOk r (λ p. p.change ≡ before.change) → IfOk made (λ m. entry_view m ≡ told_at here.at.now (model.Retried here.name.now i))
     → IfOk r (λ p. (e k : List ℕ) → Plans here p (by_trouble_at here e k (model.Retries i)))
 retried_so here (Ok p) before (Ok made) i rises none is first same told = λ e k.
     told_once here p before made (model.Retried here.name.now i) (Retry i) (model.Ready here.name.now (view here.visit.now.raw.value) (model.one_higher i here.visit.now.counts.items)) none is first same told (record {
@@ -132,7 +132,7 @@ retried_so here (Err x) before made i rises none is first same told = tt
 
 -- a catcher hands on to a state that may follow
 pub handed_on : {E F : Type 0} (here : Here) (r : Result Plan E) (before : Plan) (made : Result Entry F) (visit : Visit) (i : ℕ) (next : Target) (input : Rc code.Tree Global) → before.entries.items ≡ [] → before.change ≡ Enter visit
-    → IfOk r (λ p. IsOkAnd made (λ m. p.entries.items ≡ m ∷ before.entries.items)) → IfOk r (λ p. p.change ≡ before.change) → IfOk made (λ m. entry_view m ≡ told_at here.happening.at.now (model.Caught here.name.now i (target_name next)))
+    → IfOk r (λ p. IsOkAnd made (λ m. p.entries.items ≡ m ∷ before.entries.items)) → IfOk r (λ p. p.change ≡ before.change) → IfOk made (λ m. entry_view m ≡ told_at here.at.now (model.Caught here.name.now i (target_name next)))
     → Begins next.number visit → visit.raw ≡ input → IfOk r (λ p. MayFollow here next → (e k : List ℕ) → Plans here p (by_trouble_at here e k (model.Catches i (target_name next) (view input.value))))
 handed_on here (Ok p) before (Ok made) visit i next input none is first same told begins given = λ follows e k.
     told_once here p before made (model.Caught here.name.now i (target_name next)) (Enter visit) (model.Ready (target_name next) (view input.value) []) none is first same told (moves_on here visit next input begins given follows)
@@ -148,7 +148,7 @@ caught_so here (Err e) error cause counts met trouble next seen same is follows 
 
 -- its output can't be placed
 pub misfitted : {E F : Type 0} (here : Here) (r : Result Plan E) (before : Plan) (made : Result Entry F) (name : List ℕ) → name ≡ error_name ResultPathMatchFailure → Plans here before (model.ends_failing name (codes "Catch"))
-    → IfOk r (λ p. IsOkAnd made (λ m. p.entries.items ≡ m ∷ before.entries.items)) → IfOk r (λ p. p.change ≡ before.change) → IfOk made (λ m. entry_view m ≡ told_at here.happening.at.now (model.Raised here.name.now (record { error = ResultPathMatchFailure; field = codes "Catch" })))
+    → IfOk r (λ p. IsOkAnd made (λ m. p.entries.items ≡ m ∷ before.entries.items)) → IfOk r (λ p. p.change ≡ before.change) → IfOk made (λ m. entry_view m ≡ told_at here.at.now (model.Raised here.name.now (record { error = ResultPathMatchFailure; field = codes "Catch" })))
     → IfOk r (λ p. (e k : List ℕ) → Plans here p (by_trouble_at here e k model.Misfits))
 misfitted here (Ok p) before (Ok made) name is plans first same told = λ e k.
     preceded here p before made (model.Raised here.name.now (record { error = ResultPathMatchFailure; field = codes "Catch" })) (model.ends_failing (error_name ResultPathMatchFailure) (codes "Catch")) first same told
@@ -158,7 +158,7 @@ misfitted here (Err x) before made name is plans first same told = tt
 
 -- a fault is raised
 pub raised_so : {E F : Type 0} (here : Here) (r : Result Plan E) (before : Plan) (made : Result Entry F) (fault : Fault) (name : List ℕ) → name ≡ error_name (error_view fault.error) → Plans here before (by_settings model.troubled here name fault.field.now)
-    → IfOk r (λ p. IsOkAnd made (λ m. p.entries.items ≡ m ∷ before.entries.items)) → IfOk r (λ p. p.change ≡ before.change) → IfOk made (λ m. entry_view m ≡ told_at here.happening.at.now (model.Raised here.name.now (fault_view fault))) → IfOk r (λ p. Plans here p (by_settings model.faulted here (fault_view fault)))
+    → IfOk r (λ p. IsOkAnd made (λ m. p.entries.items ≡ m ∷ before.entries.items)) → IfOk r (λ p. p.change ≡ before.change) → IfOk made (λ m. entry_view m ≡ told_at here.at.now (model.Raised here.name.now (fault_view fault))) → IfOk r (λ p. Plans here p (by_settings model.faulted here (fault_view fault)))
 raised_so here r before made fault name is plans first same told =
     preceded_so here r before made (model.Raised here.name.now (fault_view fault)) (by_settings model.troubled here (error_name (error_view fault.error)) fault.field.now) first same told
     (subst (λ n. Plans here before (by_settings model.troubled here n fault.field.now)) is plans)
@@ -167,7 +167,7 @@ raised_so here r before made fault name is plans first same told =
 
 -- for the next state
 pub left_on : {E F : Type 0} (here : Here) (r : Result Plan E) (before : Plan) (made : Result Entry F) (visit : Visit) (next : Target) (output : Rc code.Tree Global) → before.entries.items ≡ [] → before.change ≡ Enter visit
-    → IfOk r (λ p. IsOkAnd made (λ m. p.entries.items ≡ m ∷ before.entries.items)) → IfOk r (λ p. p.change ≡ before.change) → IfOk made (λ m. entry_view m ≡ told_at here.happening.at.now (model.Left here.name.now (view output.value)))
+    → IfOk r (λ p. IsOkAnd made (λ m. p.entries.items ≡ m ∷ before.entries.items)) → IfOk r (λ p. p.change ≡ before.change) → IfOk made (λ m. entry_view m ≡ told_at here.at.now (model.Left here.name.now (view output.value)))
     → Begins next.number visit → visit.raw ≡ output → IfOk r (λ p. MayFollow here next → Plans here p (model.leaves_for here.name.now (Some (target_name next)) (view output.value)))
 left_on here (Ok p) before (Ok made) visit next output none is first same told begins given = λ follows.
     told_once here p before made (model.Left here.name.now (view output.value)) (Enter visit) (model.Ready (target_name next) (view output.value) []) none is first same told (moves_on here visit next output begins given follows)
@@ -175,7 +175,7 @@ left_on here (Ok p) before (Err x) visit next output none is first same told beg
 left_on here (Err e) before made visit next output none is first same told begins given = tt
 
 -- for the end of its scope
-pub left_last : (here : Here) (entries : Vec Entry Global) (output : Rc code.Tree Global) → map entry_view entries.items ≡ map (told_at here.happening.at.now) (model.Left here.name.now (view output.value) ∷ model.Ended (model.Output (view output.value)) ∷ [])
+pub left_last : (here : Here) (entries : Vec Entry Global) (output : Rc code.Tree Global) → map entry_view entries.items ≡ map (told_at here.at.now) (model.Left here.name.now (view output.value) ∷ model.Ended (model.Output (view output.value)) ∷ [])
     → Plans here (record { entries = entries; change = End (outcomes.Output output) }) (model.leaves_for here.name.now None (view output.value))
 left_last here entries output told = record { told = told; left = λ stands. refl; rises = λ i e. absurd (cc) }
 
@@ -220,7 +220,7 @@ finished_so here (Err e) next output result is flows plans = tt
 
 -- its first move
 pub entered_so : {E F : Type 0} (here : Here) (r : Result Plan E) (before : Plan) (made : Result Entry F) (work : flow.Work) → work ≡ flow.first_move (state_at here) (view here.visit.now.raw.value) → Plans here before (by_state model.by_work here work)
-    → IfOk r (λ p. IsOkAnd made (λ m. p.entries.items ≡ m ∷ before.entries.items)) → IfOk r (λ p. p.change ≡ before.change) → IfOk made (λ m. entry_view m ≡ told_at here.happening.at.now (model.Entered here.name.now (view here.visit.now.raw.value)))
+    → IfOk r (λ p. IsOkAnd made (λ m. p.entries.items ≡ m ∷ before.entries.items)) → IfOk r (λ p. p.change ≡ before.change) → IfOk made (λ m. entry_view m ≡ told_at here.at.now (model.Entered here.name.now (view here.visit.now.raw.value)))
     → IfOk r (λ p. Plans here p (by_state model.enters here))
 entered_so here r before made work is plans first same told =
     preceded_so here r before made (model.Entered here.name.now (view here.visit.now.raw.value)) (by_state model.by_work here (flow.first_move (state_at here) (view here.visit.now.raw.value))) first same told
@@ -240,7 +240,7 @@ carried_off here (Err e) next input output v flows plans = tt
 
 -- it waits for the answer to its payload
 pub waits_so : {E F : Type 0} (here : Here) (r : Result Plan E) (before : Plan) (made : Result Entry F) (payload : Rc code.Tree Global) → before.entries.items ≡ [] → before.change ≡ Ask payload
-    → IfOk r (λ p. IsOkAnd made (λ m. p.entries.items ≡ m ∷ before.entries.items)) → IfOk r (λ p. p.change ≡ before.change) → IfOk made (λ m. entry_view m ≡ told_at here.happening.at.now (model.Asked here.name.now (view payload.value)))
+    → IfOk r (λ p. IsOkAnd made (λ m. p.entries.items ≡ m ∷ before.entries.items)) → IfOk r (λ p. p.change ≡ before.change) → IfOk made (λ m. entry_view m ≡ told_at here.at.now (model.Asked here.name.now (view payload.value)))
     → IfOk r (λ p. Plans here p (by_state model.by_work here (flow.Asks (view payload.value))))
 waits_so here r before made payload none is first same told =
     told_so here r before made (model.Asked here.name.now (view payload.value)) (Ask payload) (model.Waiting here.name.now (view here.visit.now.raw.value) here.visit.now.counts.items (view payload.value)) none is first same told (record {

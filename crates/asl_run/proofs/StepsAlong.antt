@@ -6,7 +6,7 @@ use Rattle.asl_model.specs.Run as model
 use Rattle.asl_model.specs.Tree.{Null}
 use Rattle.asl_model.proofs.RunOptions.{some_inj, none_some}
 use Rattle.asl_tree.specs.View.{view}
-use Rattle.asl_run.specs.Acting.{ActsSo, action_of, names_for}
+use Rattle.asl_run.specs.Acting.{ActsSo}
 use Rattle.asl_run.specs.Changing.{CanApply, IsApplied, IsChangedAt, changed}
 use Rattle.asl_run.specs.Nodes.{IsTable, child_number, in_table, number_from, shown_at, shown_from, shown_over}
 use Rattle.asl_run.specs.Standing.{children_of, name_in}
@@ -14,7 +14,6 @@ use Rattle.asl_run.specs.Stepping.{IsPlanned, RefusesThere, Steps, StepsAt, belo
 use Rattle.asl_run.specs.declared.entries.Entry.{Entry}
 use Rattle.asl_run.specs.declared.nodes.Node.{Node}
 use Rattle.asl_run.specs.declared.planning.Plan.{Plan}
-use Rattle.asl_run.specs.declared.stepping.Happening.{Happening}
 use Rattle.asl_run.specs.declared.stepping.StepRefusal.{StepRefusal}
 use Rattle.asl_run.specs.declared.stepping.StepRefusal.TheVariants.{NoSuchPlace, OutOfMemory}
 use Rattle.asl_run.proofs.Above.{IsAbove, place_above}
@@ -53,61 +52,61 @@ unchanged_at j nodes table = record { table = table; still = table; others = λ 
 -- ---- the answers
 
 -- there is no such place
-pub no_such_place : (happening : Happening) (nodes : List Node) → IsTable nodes → number_from nodes 0 happening.at.now ≡ None → StepsAt happening nodes nodes (Err NoSuchPlace)
-no_such_place happening nodes table none = record {
+pub no_such_place : (machine : Machine) (at : List ℕ) (action : model.Action) (nodes : List Node) → IsTable nodes → number_from nodes 0 at ≡ None → StepsAt machine at action nodes nodes (Err NoSuchPlace)
+no_such_place machine at action nodes table none = record {
   whole = record {
     steps = λ m scope shown inside stands. record {
       taken = tt;
-      refused = place_shown (names_for happening) nodes table happening.at.now 0 table.some ∙ ap (option_map (shown_at (names_for happening) nodes)) none;
+      refused = place_shown machine.names nodes table at 0 table.some ∙ ap (option_map (shown_at machine.names nodes)) none;
       unchanged = refl;
     };
   };
 }
 
 -- it is refused at the node there
-pub refused_along : (happening : Happening) (nodes : List Node) → IsTable nodes → (j : ℕ) (node : Node) → number_from nodes 0 happening.at.now ≡ Some j → slice_get nodes j ≡ Some node → (refusal : StepRefusal)
-    → RefusesThere happening.machine.now (shown_over (names_for happening) (below_node happening nodes node) node) (action_of happening) refusal → StepsAt happening nodes nodes (Err refusal)
-refused_along happening nodes table j node number there refusal h = record {
+pub refused_along : (machine : Machine) (at : List ℕ) (action : model.Action) (nodes : List Node) → IsTable nodes → (j : ℕ) (node : Node) → number_from nodes 0 at ≡ Some j → slice_get nodes j ≡ Some node → (refusal : StepRefusal)
+    → RefusesThere machine (shown_over machine.names (below_node machine.names nodes node) node) action refusal → StepsAt machine at action nodes nodes (Err refusal)
+refused_along machine at action nodes table j node number there refusal h = record {
   whole =
-      let names = names_for happening in
-      let here : RefusesThere happening.machine.now (shown_at names nodes j) (action_of happening) refusal = subst (λ a. RefusesThere happening.machine.now a (action_of happening) refusal) (sym (shown_here names nodes table j node there)) h in
-      along happening.machine.now happening.at.now names (action_of happening) (Err refusal) j nodes nodes (unchanged_at j nodes table) (refused_there happening.machine.now happening.at.now (shown_at names nodes j) (action_of happening) refusal here) happening.at.now 0 number;
+      let names = machine.names in
+      let here : RefusesThere machine (shown_at names nodes j) action refusal = subst (λ a. RefusesThere machine a action refusal) (sym (shown_here names nodes table j node there)) h in
+      along machine at names action (Err refusal) j nodes nodes (unchanged_at j nodes table) (refused_there machine at (shown_at names nodes j) action refusal here) at 0 number;
 }
 
 -- no plan was made for it
-pub unplanned_along : (happening : Happening) (nodes : List Node) → IsTable nodes → (j : ℕ) → number_from nodes 0 happening.at.now ≡ Some j → (r : Result Plan StepRefusal) (refusal : StepRefusal) → r ≡ Err refusal → IsPlanned happening nodes j r → StepsAt happening nodes nodes (Err refusal)
-unplanned_along happening nodes table j number r refusal is h =
-    refused_along happening nodes table j h.node number h.there refusal (subst (λ x. IfErr x (λ f. RefusesThere happening.machine.now (shown_over (names_for happening) (below_node happening nodes h.node) h.node) (action_of happening) f)) is h.refused)
+pub unplanned_along : (machine : Machine) (at : List ℕ) (action : model.Action) (nodes : List Node) → IsTable nodes → (j : ℕ) → number_from nodes 0 at ≡ Some j → (r : Result Plan StepRefusal) (refusal : StepRefusal) → r ≡ Err refusal → IsPlanned machine at action nodes j r → StepsAt machine at action nodes nodes (Err refusal)
+unplanned_along machine at action nodes table j number r refusal is h =
+    refused_along machine at action nodes table j h.node number h.there refusal (subst (λ x. IfErr x (λ f. RefusesThere machine (shown_over machine.names (below_node machine.names nodes h.node) h.node) action f)) is h.refused)
 
 -- what is shown of the first
 abbrev first_of : List model.Activity → model.Activity
 first_of shown = unwrap_or (slice_get shown 0) (model.Ready [] Null [])
 
 -- the plan that was made
-pub planned_so : (happening : Happening) (nodes : List Node) (j : ℕ) (r : Result Plan StepRefusal) (plan : Plan) → r ≡ Ok plan → (h : IsPlanned happening nodes j r) → ActsSo happening (below_node happening nodes h.node) h.node plan
-planned_so happening nodes j r plan is h = subst (λ x. IfOk x (λ p. ActsSo happening (below_node happening nodes h.node) h.node p)) is h.planned
+pub planned_so : (machine : Machine) (at : List ℕ) (action : model.Action) (nodes : List Node) (j : ℕ) (r : Result Plan StepRefusal) (plan : Plan) → r ≡ Ok plan → (h : IsPlanned machine at action nodes j r) → ActsSo machine at action (below_node machine.names nodes h.node) h.node plan
+planned_so machine at action nodes j r plan is h = subst (λ x. IfOk x (λ p. ActsSo machine at action (below_node machine.names nodes h.node) h.node p)) is h.planned
 
 -- so what it changes can be changed
-pub planned_can : (happening : Happening) (nodes : List Node) (j : ℕ) (r : Result Plan StepRefusal) (plan : Plan) → r ≡ Ok plan → IsPlanned happening nodes j r → (node : Node) → slice_get nodes j ≡ Some node → CanApply node plan.change
-planned_can happening nodes j r plan is h node e = subst (λ n. CanApply n plan.change) (some_inj (sym h.there ∙ e)) (planned_so happening nodes j r plan is h).rises
+pub planned_can : (machine : Machine) (at : List ℕ) (action : model.Action) (nodes : List Node) (j : ℕ) (r : Result Plan StepRefusal) (plan : Plan) → r ≡ Ok plan → IsPlanned machine at action nodes j r → (node : Node) → slice_get nodes j ≡ Some node → CanApply node plan.change
+planned_can machine at action nodes j r plan is h node e = subst (λ n. CanApply n plan.change) (some_inj (sym h.there ∙ e)) (planned_so machine at action nodes j r plan is h).rises
 
 -- memory is refused when it is carried out
-pub no_memory_along : (happening : Happening) (nodes after : List Node) → IsTable nodes → (j : ℕ) → number_from nodes 0 happening.at.now ≡ Some j → (r : Result Plan StepRefusal) (plan : Plan) → r ≡ Ok plan → IsPlanned happening nodes j r
-    → ((names : List (List ℕ)) → shown_from names 0 after ≡ shown_from names 0 nodes) → StepsAt happening nodes after (Err OutOfMemory)
-no_memory_along happening nodes after table j number r plan is h same =
-    let names = names_for happening in
-    let acts = planned_so happening nodes j r plan is h in
-    let left = refused_along happening nodes table j h.node number h.there OutOfMemory (refused_here happening (below_node happening nodes h.node) h.node plan acts) in
-    record { whole = subst (λ xs. Steps happening.machine.now happening.at.now happening.at.now (shown_at names nodes 0) (first_of xs) (action_of happening) (Err OutOfMemory)) (sym (same names)) left.whole }
+pub no_memory_along : (machine : Machine) (at : List ℕ) (action : model.Action) (nodes after : List Node) → IsTable nodes → (j : ℕ) → number_from nodes 0 at ≡ Some j → (r : Result Plan StepRefusal) (plan : Plan) → r ≡ Ok plan → IsPlanned machine at action nodes j r
+    → ((names : List (List ℕ)) → shown_from names 0 after ≡ shown_from names 0 nodes) → StepsAt machine at action nodes after (Err OutOfMemory)
+no_memory_along machine at action nodes after table j number r plan is h same =
+    let names = machine.names in
+    let acts = planned_so machine at action nodes j r plan is h in
+    let left = refused_along machine at action nodes table j h.node number h.there OutOfMemory (refused_here machine at action (below_node machine.names nodes h.node) h.node plan acts) in
+    record { whole = subst (λ xs. Steps machine at at (shown_at names nodes 0) (first_of xs) action (Err OutOfMemory)) (sym (same names)) left.whole }
 
 -- it is carried out
-pub taken_along : (happening : Happening) (nodes after : List Node) → IsTable nodes → (j : ℕ) → number_from nodes 0 happening.at.now ≡ Some j → (r : Result Plan StepRefusal) (plan : Plan) → r ≡ Ok plan → IsPlanned happening nodes j r
-    → IsApplied j nodes plan.change after → (entries : Vec Entry Global) → entries ≡ plan.entries → StepsAt happening nodes after (Ok entries)
-taken_along happening nodes after table j number r plan is h applied entries same = record {
+pub taken_along : (machine : Machine) (at : List ℕ) (action : model.Action) (nodes after : List Node) → IsTable nodes → (j : ℕ) → number_from nodes 0 at ≡ Some j → (r : Result Plan StepRefusal) (plan : Plan) → r ≡ Ok plan → IsPlanned machine at action nodes j r
+    → IsApplied j nodes plan.change after → (entries : Vec Entry Global) → entries ≡ plan.entries → StepsAt machine at action nodes after (Ok entries)
+taken_along machine at action nodes after table j number r plan is h applied entries same = record {
   whole =
-      let names = names_for happening in
-      let acts = planned_so happening nodes j r plan is h in
-      let here = taken_here happening (below_node happening nodes h.node) h.node (shown_at names after j) plan entries same acts (λ visit e. applied.shows names h.node visit h.there e) in
-      along happening.machine.now happening.at.now names (action_of happening) (Ok entries) j nodes after applied.at
-      (subst (λ a. Steps happening.machine.now happening.at.now [] a (shown_at names after j) (action_of happening) (Ok entries)) (sym (shown_here names nodes table j h.node h.there)) here) happening.at.now 0 number;
+      let names = machine.names in
+      let acts = planned_so machine at action nodes j r plan is h in
+      let here = taken_here machine at action (below_node machine.names nodes h.node) h.node (shown_at names after j) plan entries same acts (λ visit e. applied.shows names h.node visit h.there e) in
+      along machine at names action (Ok entries) j nodes after applied.at
+      (subst (λ a. Steps machine at [] a (shown_at names after j) action (Ok entries)) (sym (shown_here names nodes table j h.node h.there)) here) at 0 number;
 }

@@ -12,7 +12,7 @@ use Rattle.asl_model.specs.Numbering.{HasNamed, IsScopeOf, Table, outline, table
 use Rattle.asl_model.specs.Run as model
 use Rattle.asl_model.proofs.Outlines.{moves_ready_outlined, moves_waiting_outlined, moves_split_outlined}
 use Rattle.asl_model.proofs.RunOptions.{some_inj, none_some, there_some}
-use Rattle.asl_run.specs.Acting.{Acts, ActsSo, StandsAt, action_of, moves, names_for}
+use Rattle.asl_run.specs.Acting.{Acts, ActsSo, StandsAt, action_of, moves}
 use Rattle.asl_run.specs.Changing.{changed, visit_in}
 use Rattle.asl_run.specs.Enabling.{wanted_by}
 use Rattle.asl_run.specs.Entries.{answer_view, entry_view}
@@ -27,7 +27,6 @@ use Rattle.asl_run.specs.declared.entries.Outcome.TheVariants as outcomes
 use Rattle.asl_run.specs.declared.nodes.Node.{Node}
 use Rattle.asl_run.specs.declared.nodes.Node.TheVariants as nodes
 use Rattle.asl_run.specs.declared.planning.Plan.{Plan}
-use Rattle.asl_run.specs.declared.stepping.Happening.{Happening}
 use Rattle.asl_run.specs.declared.stepping.StepRefusal.{StepRefusal}
 use Rattle.asl_run.specs.declared.stepping.StepRefusal.TheVariants.{NotEnabled, OutOfMemory}
 use Rattle.asl_run.proofs.Leading.{IsFound, NamesNumbered, is_found, leads_on}
@@ -137,17 +136,13 @@ acts_by machine m scope a action visit shown inside is stands = record {
 
 -- ---- the answers
 
--- what a node shows over these children, in the machine where it happens
-abbrev pub seen_over : Happening → model.Activities → Node → model.Activity
-seen_over happening below node = shown_over (names_for happening) below node
-
 -- a plan that is carried out
-pub taken_here : (happening : Happening) (below : model.Activities) (node : Node) (after : model.Activity) (plan : Plan) (entries : Vec _ Global) → entries ≡ plan.entries → ActsSo happening below node plan
-    → ((visit : Visit) → visit_in node ≡ Some visit → after ≡ changed (names_for happening) visit plan.change) → Steps happening.machine.now happening.at.now [] (seen_over happening below node) after (action_of happening) (Ok entries)
-taken_here happening below node after plan entries same acts now = record {
+pub taken_here : (machine : Machine) (at : List ℕ) (action : model.Action) (below : model.Activities) (node : Node) (after : model.Activity) (plan : Plan) (entries : Vec _ Global) → entries ≡ plan.entries → ActsSo machine at action below node plan
+    → ((visit : Visit) → visit_in node ≡ Some visit → after ≡ changed machine.names visit plan.change) → Steps machine at [] (shown_over machine.names below node) after action (Ok entries)
+taken_here machine at action below node after plan entries same acts now = record {
   steps = λ m scope shown inside stands.
-      let names = names_for happening in
-      let by = acts_by happening.machine.now m scope (seen_over happening below node) (action_of happening) acts.visit shown inside (is_of names below node acts.visit acts.stands) stands in
+      let names = machine.names in
+      let by = acts_by machine m scope (shown_over machine.names below node) action acts.visit shown inside (is_of names below node acts.visit acts.stands) stands in
       let one = acts.does by.state by.stands in
       record {
         taken = record {
@@ -162,27 +157,27 @@ taken_here happening below node after plan entries same acts now = record {
 }
 
 -- a plan that isn't carried out, for want of memory
-pub refused_here : (happening : Happening) (below : model.Activities) (node : Node) (plan : Plan) → ActsSo happening below node plan → RefusesThere happening.machine.now (seen_over happening below node) (action_of happening) OutOfMemory
-refused_here happening below node plan acts = record {
+pub refused_here : (machine : Machine) (at : List ℕ) (action : model.Action) (below : model.Activities) (node : Node) (plan : Plan) → ActsSo machine at action below node plan → RefusesThere machine (shown_over machine.names below node) action OutOfMemory
+refused_here machine at action below node plan acts = record {
   refuses = λ m scope shown inside stands.
-      let names = names_for happening in
-      let by = acts_by happening.machine.now m scope (seen_over happening below node) (action_of happening) acts.visit shown inside (is_of names below node acts.visit acts.stands) stands in
+      let names = machine.names in
+      let by = acts_by machine m scope (shown_over machine.names below node) action acts.visit shown inside (is_of names below node acts.visit acts.stands) stands in
       let one = acts.does by.state by.stands in
-      there_some (model.acts scope (seen_over happening below node) (action_of happening)) (by.acts ∙ one.is);
+      there_some (model.acts scope (shown_over machine.names below node) action) (by.acts ∙ one.is);
 }
 
 -- no plan is made
-pub not_here : (happening : Happening) (below : model.Activities) (node : Node) → Acts happening below node None → RefusesThere happening.machine.now (seen_over happening below node) (action_of happening) NotEnabled
-not_here happening below node acts = record { refuses = λ m scope shown inside stands. (refl, none m scope shown inside stands (visit_in node) refl) }
+pub not_here : (machine : Machine) (at : List ℕ) (action : model.Action) (below : model.Activities) (node : Node) → Acts machine at action below node None → RefusesThere machine (shown_over machine.names below node) action NotEnabled
+not_here machine at action below node acts = record { refuses = λ m scope shown inside stands. (refl, none m scope shown inside stands (visit_in node) refl) }
   where
     names : List (List ℕ)
-    names = names_for happening
+    names = machine.names
 
-    none : (m scope : Scope) → Shows happening.machine.now m → IsScopeOf m scope → StandsIn (seen_over happening below node) scope → (o : Option Visit) → visit_in node ≡ o → model.acts scope (seen_over happening below node) (action_of happening) ≡ None
-    none m scope shown inside stands None e = acts_never (seen_over happening below node) scope (action_of happening) (is_of_none names below node e)
+    none : (m scope : Scope) → Shows machine m → IsScopeOf m scope → StandsIn (shown_over machine.names below node) scope → (o : Option Visit) → visit_in node ≡ o → model.acts scope (shown_over machine.names below node) action ≡ None
+    none m scope shown inside stands None e = acts_never (shown_over machine.names below node) scope action (is_of_none names below node e)
     none m scope shown inside stands (Some visit) e =
-        let by = acts_by happening.machine.now m scope (seen_over happening below node) (action_of happening) visit shown inside (is_of names below node visit e) stands in
-        by.acts ∙ acts.nothing refl by.state (subst (λ o. IfSome o (λ v. StandsAt happening.machine.now v by.state)) (sym e) by.stands)
+        let by = acts_by machine m scope (shown_over machine.names below node) action visit shown inside (is_of names below node visit e) stands in
+        by.acts ∙ acts.nothing refl by.state (subst (λ o. IfSome o (λ v. StandsAt machine v by.state)) (sym e) by.stands)
 
 -- the activity wants no such event
 pub unwanted_here : (machine : Machine) (a : model.Activity) (action : model.Action) → wanted_by a ≢ Some (model.want_of action) → RefusesThere machine a action NotEnabled
@@ -207,27 +202,21 @@ pub want_of_answer : (answer : Answer) → model.want_of (answer_view answer) �
 want_of_answer (answers.Gives t) = refl
 want_of_answer (answers.Fails error cause) = refl
 
--- what happens is of the kind that the activity wants, a move
-pub wants_move : (happening : Happening) (own : Option model.Want) (result : Bool) → own ≡ Some model.WantsMove → is_some happening.answer ≡ not result → IsTrue result ↔ (own ≡ Some (model.want_of (action_of happening)))
-wants_move happening own result e is = rw e (go happening.answer result is)
-  where
-    go : (answer : Option (Bor Answer)) (b : Bool) → is_some answer ≡ not b → IsTrue b ↔ (Some model.WantsMove ≡ Some (model.want_of (unwrap_or (option_map (λ a. answer_view a.now) answer) model.Move)))
-    go None true f = (λ t. refl, λ g. refl)
-    go None false f = absurd (cc)
-    go (Some answer) true f = absurd (cc)
-    go (Some answer) false f = rw (want_of_answer answer.now) (λ t. absurd (cc), λ g. absurd (cc))
+-- the action is of the kind that the activity wants, a move
+pub wants_move : (answer : Option (Bor Answer)) (own : Option model.Want) (result : Bool) → own ≡ Some model.WantsMove → is_some answer ≡ not result → IsTrue result ↔ (own ≡ Some (model.want_of (action_of answer)))
+wants_move None own true e is = rw e (λ t. refl, λ g. refl)
+wants_move None own false e is = absurd (cc)
+wants_move (Some answer) own true e is = absurd (cc)
+wants_move (Some answer) own false e is = rw (e, want_of_answer answer.now) (λ t. absurd (cc), λ g. absurd (cc))
 
 -- or an answer
-pub wants_answer : (happening : Happening) (own : Option model.Want) (result : Bool) → own ≡ Some model.WantsAnswer → result ≡ is_some happening.answer → IsTrue result ↔ (own ≡ Some (model.want_of (action_of happening)))
-wants_answer happening own result e is = rw (e, is) (go happening.answer)
-  where
-    go : (answer : Option (Bor Answer)) → IsTrue (is_some answer) ↔ (Some model.WantsAnswer ≡ Some (model.want_of (unwrap_or (option_map (λ a. answer_view a.now) answer) model.Move)))
-    go None = (λ t. absurd (cc), λ f. absurd (cc))
-    go (Some answer) = rw (want_of_answer answer.now) (λ t. refl, λ f. refl)
+pub wants_answer : (answer : Option (Bor Answer)) (own : Option model.Want) (result : Bool) → own ≡ Some model.WantsAnswer → result ≡ is_some answer → IsTrue result ↔ (own ≡ Some (model.want_of (action_of answer)))
+wants_answer None own result e is = rw (e, is) (λ t. absurd (cc), λ f. absurd (cc))
+wants_answer (Some answer) own result e is = rw (e, is, want_of_answer answer.now) (λ t. refl, λ f. refl)
 
 -- it wants none
-pub wants_none : (happening : Happening) (own : Option model.Want) → own ≡ None → IsTrue false ↔ (own ≡ Some (model.want_of (action_of happening)))
-wants_none happening own e = (λ t. absurd (cc), λ f. none_some (sym e ∙ f))
+pub wants_none : (answer : Option (Bor Answer)) (own : Option model.Want) → own ≡ None → IsTrue false ↔ (own ≡ Some (model.want_of (action_of answer)))
+wants_none answer own e = (λ t. absurd (cc), λ f. none_some (sym e ∙ f))
 
 -- as it was found, it does not want it, or does
 pub so_unwanted : (wanted : Bool) (own : Option model.Want) (kind : model.Want) → (IsTrue wanted ↔ (own ≡ Some kind)) → wanted ≡ false → own ≢ Some kind
@@ -238,10 +227,3 @@ so_unwanted wanted own kind told is = λ e. absurd (true_false (sym (told.1 e) �
 
 pub so_wanted : (wanted : Bool) (own : Option model.Want) (kind : model.Want) → (IsTrue wanted ↔ (own ≡ Some kind)) → wanted ≡ true → own ≡ Some kind
 so_wanted wanted own kind told is = told.0 is
-
--- a plan was made
-pub planned : {E : Type 0} (happening : Happening) (below : model.Activities) (node : Node) (plan : Plan) (made : Result (Option Plan) E) → made ≡ Ok (Some plan) → IfOk made (λ p. Acts happening below node p)
-    → ActsSo happening below node plan
-planned {E = E} happening below node plan made is acts =
-    let known : IfOk {E = E} (Ok (Some plan)) (λ p. Acts happening below node p) = subst (λ r. IfOk r (λ p. Acts happening below node p)) is acts in
-    known.planned

@@ -1,5 +1,6 @@
 -- What is to be done in one step at one place.
 use Rattle.std.specs.Prelude.{◌≡◌, ℕ, List, map, Option, Some, None, IfSome, option_map, slice_get}
+use Rattle.std.specs.Borrow.{Bor}
 use Rattle.std.specs.Option.{unwrap_or}
 use Rattle.asl_states.specs.Machine.{kind_view, settings_view, state_view}
 use Rattle.asl_machine_table.specs.Table.{states_in, table_view}
@@ -19,27 +20,23 @@ use Rattle.asl_run.specs.Troubles.{CanRise}
 use Rattle.asl_run.specs.Working.{WorkLeads}
 use Rattle.asl_run.specs.declared.activities.Visit.{Visit}
 use Rattle.asl_run.specs.declared.changing.Change.TheVariants.{Retry}
+use Rattle.asl_run.specs.declared.entries.Answer.{Answer}
 use Rattle.asl_run.specs.declared.nodes.Node.{Node}
 use Rattle.asl_run.specs.declared.planning.Here.{Here}
 use Rattle.asl_run.specs.declared.planning.Plan.{Plan}
-use Rattle.asl_run.specs.declared.stepping.Happening.{Happening}
 use Rattle.asl_run.specs.declared.working.Work.{Work}
 
 -- ---- what happens at a place
 
--- the names of the machine's states, by number
-abbrev pub names_for : Happening → List (List ℕ)
-names_for happening = (table_view happening.machine.now).names
-
 -- the answer, or without one a move
-abbrev pub action_of : Happening → model.Action
-action_of happening = unwrap_or (option_map (λ a. answer_view a.now) happening.answer) model.Move
+abbrev pub action_of : Option (Bor Answer) → model.Action
+action_of answer = unwrap_or (option_map (λ a. answer_view a.now) answer) model.Move
 
 -- ---- one execution of a state, where it stands
 
 -- the names of the machine's states, by number
 abbrev pub names_at : Here → List (List ℕ)
-names_at here = names_for here.happening
+names_at here = here.machine.now.names
 
 -- the state, without the states of its scopes
 abbrev pub state_at : Here → State
@@ -81,7 +78,7 @@ told_at place entry = (place, entry)
 
 -- an entry with the place of that execution
 abbrev pub told_here : Here → model.Entry → List ℕ × model.Entry
-told_here here = told_at here.happening.at.now
+told_here here = told_at here.at.now
 
 -- A plan is that of a step: its entries are the step's, at the place; its change leaves what the step leaves; a count
 -- that is to rise can.
@@ -155,9 +152,9 @@ pub record HasNoVisit (node : Node) : Type 0 where
 pub record IsFoundIn (node : Node) (here : Here) : Type 0 where
   pub visit : IsVisitOf node here.visit.now
   pub name : slice_get (names_at here) here.visit.now.state ≡ Some here.name.now
-  pub state : slice_get (table_view here.happening.machine.now).states here.visit.now.state
+  pub state : slice_get (table_view here.machine.now).states here.visit.now.state
       ≡ Some (state_at here)
-  pub stored : slice_get (states_in here.happening.machine.now) here.visit.now.state ≡ Some here.state.now
+  pub stored : slice_get (states_in here.machine.now) here.visit.now.state ≡ Some here.state.now
 
 -- no action does anything at the node
 pub record DoesNothing (machine : Machine) (node : Node) : Type 0 where
@@ -166,27 +163,30 @@ pub record DoesNothing (machine : Machine) (node : Node) : Type 0 where
       → moves (shown_over (table_view machine).names below node) action state ≡ None
 
 -- the plan does what the step does where that happens to the execution
-pub record Does (happening : Happening) (visit : Visit) (plan : Plan) (step : model.Step) : Type 0 where
-  pub told : map entry_view plan.entries.items ≡ map (told_at happening.at.now) step.entries
-  pub left : changed (names_for happening) visit plan.change ≡ step.after
+pub record Does (machine : Machine) (at : List ℕ) (visit : Visit) (plan : Plan) (step : model.Step) : Type 0 where
+  pub told : map entry_view plan.entries.items ≡ map (told_at at) step.entries
+  pub left : changed machine.names visit plan.change ≡ step.after
 
 -- there is a step, and the plan does it
-pub record DoesOne (happening : Happening) (visit : Visit) (plan : Plan) (step : Option model.Step) : Type 0 where
+pub record DoesOne (machine : Machine) (at : List ℕ) (visit : Visit) (plan : Plan)
+    (step : Option model.Step) : Type 0 where
   pub that : model.Step
   pub is : step ≡ Some that
-  pub does : Does happening visit plan that
+  pub does : Does machine at visit plan that
 
--- a plan is that of what happens at the node over these children
-pub record ActsSo (happening : Happening) (below : model.Activities) (node : Node) (plan : Plan) : Type 0 where
+-- a plan is that of what the action does at that place, in the node over these children
+pub record ActsSo (machine : Machine) (at : List ℕ) (action : model.Action)
+    (below : model.Activities) (node : Node) (plan : Plan) : Type 0 where
   pub visit : Visit
   pub stands : visit_in node ≡ Some visit
   pub rises : CanApply node plan.change
-  pub does : (state : State) → StandsAt happening.machine.now visit state → DoesOne happening visit plan
-      (moves (shown_over (names_for happening) below node) (action_of happening) state)
+  pub does : (state : State) → StandsAt machine visit state
+      → DoesOne machine at visit plan (moves (shown_over machine.names below node) action state)
 
 -- so is the plan, if there is one; there is none only where it does nothing there
-pub record Acts (happening : Happening) (below : model.Activities) (node : Node) (plan : Option Plan) : Type 0 where
-  pub planned : IfSome plan (ActsSo happening below node)
+pub record Acts (machine : Machine) (at : List ℕ) (action : model.Action)
+    (below : model.Activities) (node : Node) (plan : Option Plan) : Type 0 where
+  pub planned : IfSome plan (ActsSo machine at action below node)
   pub nothing : plan ≡ None → (state : State)
-      → IfSome (visit_in node) (λ visit. StandsAt happening.machine.now visit state)
-      → moves (shown_over (names_for happening) below node) (action_of happening) state ≡ None
+      → IfSome (visit_in node) (λ visit. StandsAt machine visit state)
+      → moves (shown_over machine.names below node) action state ≡ None

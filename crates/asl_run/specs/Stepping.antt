@@ -1,11 +1,10 @@
 -- Steps of a run, as the definitions have them.
 use Rattle.std.specs.Prelude.{◌≡◌, ℕ, List, map, Option, Some, None, Result, IfOk, IfErr, Vec, slice_get}
 use Rattle.std.specs.Option.{IsSome}
-use Rattle.asl_run.specs.Acting.{ActsSo, action_of, names_for}
+use Rattle.asl_run.specs.Acting.{ActsSo}
 use Rattle.asl_run.specs.Nodes.{in_table, range_of, shown_at, shown_from, shown_over}
 use Rattle.asl_run.specs.declared.nodes.Node.{Node}
 use Rattle.asl_run.specs.declared.planning.Plan.{Plan}
-use Rattle.asl_run.specs.declared.stepping.Happening.{Happening}
 use Rattle.std.specs.declared.alloc.Global.{Global}
 use Rattle.asl_machine_table.specs.Table.{Shows}
 use Rattle.asl_machine_table.specs.declared.machine.Machine.{Machine}
@@ -52,17 +51,15 @@ pub record Steps (machine : Machine) (at place : List ℕ) (before after : model
   pub steps : (m scope : Scope) → Shows machine m → IsScopeOf m scope → StandsIn before scope
       → StepsIn scope at place before after action r
 
--- an answer to what happens to a table of nodes is right
-pub record StepsAt (happening : Happening) (before after : List Node)
-    (r : Result (Vec Entry Global) StepRefusal) : Type 0 where
-  pub whole : Steps happening.machine.now happening.at.now happening.at.now
-      (shown_at (names_for happening) before 0) (shown_at (names_for happening) after 0)
-      (action_of happening) r
+-- an answer to an action at a place of a table of nodes is right
+pub record StepsAt (machine : Machine) (at : List ℕ) (action : model.Action)
+    (before after : List Node) (r : Result (Vec Entry Global) StepRefusal) : Type 0 where
+  pub whole : Steps machine at at
+      (shown_at machine.names before 0) (shown_at machine.names after 0) action r
 
 -- what is shown of the children of a node of a table
-abbrev pub below_node : Happening → List Node → Node → model.Activities
-below_node happening nodes node =
-    children_of (in_table (range_of node) (shown_from (names_for happening) 0 nodes))
+abbrev pub below_node : List (List ℕ) → List Node → Node → model.Activities
+below_node names nodes node = children_of (in_table (range_of node) (shown_from names 0 nodes))
 
 -- a refusal is right for an activity itself
 pub record RefusesThere (machine : Machine) (a : model.Activity) (action : model.Action)
@@ -70,12 +67,11 @@ pub record RefusesThere (machine : Machine) (a : model.Activity) (action : model
   pub refuses : (m scope : Scope) → Shows machine m → IsScopeOf m scope → StandsIn a scope
       → RefusedSo refusal (Some a) (model.acts scope a action)
 
--- what is to be done at node i, or why there is nothing
-pub record IsPlanned (happening : Happening) (nodes : List Node) (i : ℕ)
-    (r : Result Plan StepRefusal) : Type 0 where
+-- what an action is to do at node i, which stands at that place, or why that is nothing
+pub record IsPlanned (machine : Machine) (at : List ℕ) (action : model.Action) (nodes : List Node)
+    (i : ℕ) (r : Result Plan StepRefusal) : Type 0 where
   pub node : Node
   pub there : slice_get nodes i ≡ Some node
-  pub planned : IfOk r (ActsSo happening (below_node happening nodes node) node)
-  pub refused : IfErr r (λ refusal. RefusesThere happening.machine.now
-      (shown_over (names_for happening) (below_node happening nodes node) node)
-      (action_of happening) refusal)
+  pub planned : IfOk r (ActsSo machine at action (below_node machine.names nodes node) node)
+  pub refused : IfErr r (λ refusal. RefusesThere machine
+      (shown_over machine.names (below_node machine.names nodes node) node) action refusal)

@@ -2,8 +2,8 @@
 
 ghost use Rattle.std.specs.Prelude.{◌≡◌, List, IfOk, IfSome, None};
 ghost use Rattle.asl_model.specs.Run as model;
-ghost use Rattle.asl_run.specs.Acting.{Acts, DoesNothing, HasNoVisit, IsFoundIn, IsVisitOf, Plans, PlansAs};
-ghost use Rattle.asl_run.specs.Acting.{action_of, by_settings, moves_at, names_at, names_for};
+ghost use Rattle.asl_run.specs.Acting.{DoesNothing, HasNoVisit, IsFoundIn, IsVisitOf, Plans, PlansAs};
+ghost use Rattle.asl_run.specs.Acting.{action_of, by_settings, moves_at, names_at};
 ghost use Rattle.asl_run.specs.Nodes.{AreHeads};
 ghost use Rattle.asl_run.specs.Standing.{children_of};
 
@@ -16,43 +16,62 @@ use crate::joining::join;
 use crate::leaving::finish;
 use crate::nodes::Node;
 use crate::planning::{Here, Plan};
-use crate::stepping::Happening;
+use asl_machine_table::Machine;
 use asl_tree::OutOfMemory;
+use std::alloc::Global;
 
-impl<'h, 'm> Happening<'h, 'm> {
-    /// What is to be done where this node stands over these children; none where what happens isn't enabled there. Nothing
-    /// is changed yet.
-    pub(crate) fn plan(
-        self,
+impl<'h, 'm> Here<'h, 'm> {
+    /// The execution that stands in the node at that place with its state, which is found in the machine by its number;
+    /// none where the scope has ended.
+    pub(crate) fn find(
+        alloc: Global,
+        machine: &'m Machine,
+        at: &'h [usize],
         node: &'h Node,
-        children: &[Node],
-    ) -> Result<Option<Plan<'m>>, OutOfMemory>
-        ensures { IfOk result (λ plan. (below : List model.Activity)
-            → AreHeads (names_for self.entry) children.now below
-            → Acts self.entry (children_of below) node.now plan) }
-    {
-        match self.find(node) {
-            Some(here) => here.act(node, children),
-            None => Ok(None),
-        }
-    }
-
-    /// The execution that stands there with its state, which is found in the machine by its number; none where the scope
-    /// has ended.
-    fn find(self, node: &'h Node) -> Option<Here<'h, 'm>>
+    ) -> Option<Here<'h, 'm>>
         ensures found { IfSome result (IsFoundIn node.now) }
-        ensures here { IfSome result (λ here. here.happening ≡ self.entry) }
-        ensures missing { result ≡ None → DoesNothing self.entry.machine.now node.now }
+        ensures machine { IfSome result (λ here. here.machine.now ≡ machine.now) }
+        ensures place { IfSome result (λ here. here.at.now ≡ at.now) }
+        ensures missing { result ≡ None → DoesNothing machine.now node.now }
     {
         let visit = visit_of(node)?;
-        let name = self.machine.name(visit.state)?;
-        let state = self.machine.state(visit.state)?;
+        let name = machine.name(visit.state)?;
+        let state = machine.state(visit.state)?;
         Some(Here {
-            happening: self,
+            alloc,
+            machine,
+            at,
             name,
             state,
             visit,
         })
+    }
+
+    /// What is to be done where that execution stands, in that node over these children; none where the answer, or
+    /// without one a move, isn't enabled there. Nothing is changed yet.
+    pub(crate) fn act(
+        &self,
+        answer: Option<&Answer>,
+        node: &Node,
+        children: &[Node],
+    ) -> Result<Option<Plan<'m>>, OutOfMemory>
+        ensures { IfOk result (λ plan. (below : List model.Activity)
+            → AreHeads (names_at self.now) children.now below
+            → PlansAs self.now plan (moves_at self.now (children_of below) node.now
+            (action_of answer.entry))) }
+    {
+        match (answer, node) {
+            (None, Node::Ready(_)) => Ok(Some(enter(self)?)),
+            (None, Node::Split { .. }) => join(self, children),
+            (None, Node::Waiting { .. } | Node::Ended(_)) => Ok(None),
+            (Some(Answer::Gives(value)), Node::Waiting { .. }) => {
+                Ok(Some(finish(self, Data::Shared(value))?))
+            }
+            (Some(Answer::Fails { error, cause }), Node::Waiting { .. }) => {
+                Ok(Some(fail(self, error, cause)?))
+            }
+            (Some(_), Node::Ready(_) | Node::Split { .. } | Node::Ended(_)) => Ok(None),
+        }
     }
 }
 
@@ -66,30 +85,6 @@ fn visit_of(node: &Node) -> Option<&Visit>
         Node::Waiting { visit, payload: _ } => Some(visit),
         Node::Split { visit, children: _ } => Some(visit),
         Node::Ended(_) => None,
-    }
-}
-
-impl<'m> Here<'_, 'm> {
-    /// What is to be done where that execution stands, in that node over these children; none where what happens isn't
-    /// enabled there.
-    fn act(&self, node: &Node, children: &[Node]) -> Result<Option<Plan<'m>>, OutOfMemory>
-        ensures { IfOk result (λ plan. (below : List model.Activity)
-            → AreHeads (names_at self.now) children.now below
-            → PlansAs self.now plan (moves_at self.now (children_of below) node.now
-            (action_of self.now.happening))) }
-    {
-        match (self.happening.answer, node) {
-            (None, Node::Ready(_)) => Ok(Some(enter(self)?)),
-            (None, Node::Split { .. }) => join(self, children),
-            (None, Node::Waiting { .. } | Node::Ended(_)) => Ok(None),
-            (Some(Answer::Gives(value)), Node::Waiting { .. }) => {
-                Ok(Some(finish(self, Data::Shared(value))?))
-            }
-            (Some(Answer::Fails { error, cause }), Node::Waiting { .. }) => {
-                Ok(Some(fail(self, error, cause)?))
-            }
-            (Some(_), Node::Ready(_) | Node::Split { .. } | Node::Ended(_)) => Ok(None),
-        }
     }
 }
 

@@ -26,7 +26,7 @@ use asl_tree::OutOfMemory;
 pub(crate) fn enter<'m>(here: &Here<'_, 'm>) -> Result<Plan<'m>, OutOfMemory>
     ensures { IfOk result (λ plan. Plans here.now plan (by_state model.enters here.now)) }
 {
-    let work = first_move(here.happening.alloc, here.state, &here.visit.raw)?;
+    let work = first_move(here.alloc, here.state, &here.visit.raw)?;
     let plan = carry_out(here, work)?;
     plan.after(here.entered())
 }
@@ -39,7 +39,7 @@ fn carry_out<'m>(here: &Here<'_, 'm>, work: Work) -> Result<Plan<'m>, OutOfMemor
     match work {
         Work::Finishes(value) => finish(here, value),
         Work::Leaves { next, input } => {
-            let output = at_output_path(here.happening.alloc, &here.state.settings, input);
+            let output = at_output_path(here.alloc, &here.state.settings, input);
             leave_with(here, next, output)
         }
         Work::Fails { error, cause } => here.ends_failing(error, cause),
@@ -55,7 +55,7 @@ fn ask<'m>(here: &Here<'_, 'm>, payload: Data) -> Result<Plan<'m>, OutOfMemory>
     ensures { IfOk result (λ plan. Plans here.now plan
         (by_state model.by_work here.now (flow.Asks (data_view payload.entry)))) }
 {
-    let payload = payload.into_datum(here.happening.alloc)?;
+    let payload = payload.into_datum(here.alloc)?;
     wait_for(here, payload)
 }
 
@@ -66,7 +66,7 @@ fn wait_for<'m>(here: &Here<'_, 'm>, payload: Datum) -> Result<Plan<'m>, OutOfMe
         Plans here.now plan (by_state model.by_work here.now (flow.Asks (view payload.value)))) }
 {
     let told = here.asked(&payload);
-    Plan::new(here.happening.alloc, Change::Ask(payload)).after(told)
+    Plan::new(here.alloc, Change::Ask(payload)).after(told)
 }
 
 /// It starts these children.
@@ -77,5 +77,5 @@ fn split<'m>(here: &Here<'_, 'm>, children: Vec<Visit>) -> Plan<'m>
         → Plans here.now result
         (by_state model.by_work here.now (flow.Splits (inputs_of children.items))) }
 {
-    Plan::new(here.happening.alloc, Change::SplitInto(children))
+    Plan::new(here.alloc, Change::SplitInto(children))
 }

@@ -29,7 +29,7 @@ pub(crate) fn in_trouble<'m>(
     let settings = &here.state.settings;
     let visit = here.visit;
     match trouble_of(
-        here.happening.alloc,
+        here.alloc,
         settings,
         &visit.raw,
         &visit.counts,
@@ -54,7 +54,7 @@ fn retry<'m>(here: &Here<'_, 'm>, retrier: usize) -> Result<Plan<'m>, OutOfMemor
     ensures { IfOk result (λ plan. (error cause : List ℕ)
         → Plans here.now plan (by_trouble_at here.now error cause (model.Retries retrier))) }
 {
-    Plan::new(here.happening.alloc, Change::Retry(retrier)).after(here.retried(retrier))
+    Plan::new(here.alloc, Change::Retry(retrier)).after(here.retried(retrier))
 }
 
 /// The catcher of that number hands this input to that state.
@@ -70,8 +70,8 @@ fn hand_on<'m>(
         (model.Catches catcher (target_name next.now) (view input.value)))) }
 {
     let told = here.caught(catcher, next);
-    let entered = Visit::new(here.happening.alloc, next.number, input);
-    Plan::new(here.happening.alloc, Change::Enter(entered)).after(told)
+    let entered = Visit::new(here.alloc, next.number, input);
+    Plan::new(here.alloc, Change::Enter(entered)).after(told)
 }
 
 /// A catcher's output can't be placed: that is a fault, which nothing takes.

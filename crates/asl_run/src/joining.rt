@@ -48,7 +48,7 @@ pub(crate) fn join<'m>(
 {
     match how_far(children) {
         Far::AllDone => {
-            let outputs = outputs_of(here.happening.alloc, children)?;
+            let outputs = outputs_of(here.alloc, children)?;
             let finished = finish(here, Data::Made(Tree::List(outputs)))?;
             Ok(Some(finished))
         }

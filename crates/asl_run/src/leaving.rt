@@ -44,8 +44,8 @@ fn leave_for<'m>(here: &Here<'_, 'm>, next: &Target, output: Datum) -> Result<Pl
         (model.leaves_for here.now.name.now (Some (target_name next.now)) (view output.value))) }
 {
     let told = here.left(&output);
-    let entered = Visit::new(here.happening.alloc, next.number, output);
-    Plan::new(here.happening.alloc, Change::Enter(entered)).after(told)
+    let entered = Visit::new(here.alloc, next.number, output);
+    Plan::new(here.alloc, Change::Enter(entered)).after(told)
 }
 
 /// So for the end of its scope.
@@ -90,6 +90,6 @@ pub(crate) fn finish<'m>(here: &Here<'_, 'm>, value: Data) -> Result<Plan<'m>, O
         Plans here.now plan (by_settings model.finishes here.now (data_view value.entry))) }
 {
     let settings = &here.state.settings;
-    let output = output_of(here.happening.alloc, settings, &here.visit.raw, value);
+    let output = output_of(here.alloc, settings, &here.visit.raw, value);
     leave_with(here, settings.next.as_ref(), output)
 }

@@ -13,7 +13,7 @@ use crate::activities::Visit;
 use crate::changing::Change;
 use crate::entries::{Datum, Entry, Outcome, Place};
 use crate::faults::Fault;
-use crate::stepping::Happening;
+use asl_machine_table::Machine;
 use asl_states::{State, Target};
 use asl_tree::OutOfMemory;
 use std::alloc::Global;
@@ -28,7 +28,10 @@ pub(crate) struct Plan<'m> {
 /// An execution of a state where something happens to it, by its state's name.
 #[derive(Drop)]
 pub(crate) struct Here<'h, 'm> {
-    pub(crate) happening: Happening<'h, 'm>,
+    pub(crate) alloc: Global,
+    pub(crate) machine: &'m Machine,
+    /// Its place, from the machine's own on.
+    pub(crate) at: &'h [usize],
     pub(crate) name: &'m str,
     pub(crate) state: &'m State,
     pub(crate) visit: &'h Visit,
@@ -78,16 +81,16 @@ fn with_first<'m>(
 impl<'m> Here<'_, 'm> {
     /// The place.
     fn place(&self) -> Result<Place, OutOfMemory>
-        ensures { IfOk result (λ place. place.items ≡ self.now.happening.at.now) }
+        ensures { IfOk result (λ place. place.items ≡ self.now.at.now) }
     {
-        Ok(Vec::from_slice(self.happening.alloc, self.happening.at)?)
+        Ok(Vec::from_slice(self.alloc, self.at)?)
     }
 
     /// A text of its own.
     fn text(&self, text: &str) -> Result<String, OutOfMemory>
         ensures { IfOk result (λ s. string_bytes s ≡ text.now) }
     {
-        Ok(String::from_str(self.happening.alloc, text)?)
+        Ok(String::from_str(self.alloc, text)?)
     }
 
     /// The entry that the state is entered with its raw input.
@@ -201,7 +204,7 @@ impl<'m> Here<'_, 'm> {
             ≡ map (told_here self.now) (model.Left self.now.name.now (view output.now.value)
             ∷ model.Ended (model.Output (view output.now.value)) ∷ [])) }
     {
-        let entries = with_first(self.ended_with(output), Vec::new(self.happening.alloc))?;
+        let entries = with_first(self.ended_with(output), Vec::new(self.alloc))?;
         with_first(self.left(output), entries)
     }
 
@@ -246,6 +249,6 @@ impl<'m> Here<'_, 'm> {
     {
         let ended = self.failure(error, cause)?;
         let told = self.ended_failing(error, cause);
-        Plan::new(self.happening.alloc, Change::End(ended)).after(told)
+        Plan::new(self.alloc, Change::End(ended)).after(told)
     }
 }

@@ -18,7 +18,7 @@ use crate::enabling::add_places;
 use crate::entries::{Entry, Event, Outcome, Place, Want};
 use crate::nodes::Node;
 use crate::standing::Standing;
-use crate::stepping::{Happening, StepRefusal};
+use crate::stepping::{StepRefusal, take_step};
 use asl_machine_table::Machine;
 use asl_tree::{OutOfMemory, Tree};
 use std::alloc::Global;
@@ -118,13 +118,13 @@ impl<'m> Run<'m> {
             (event_view event.now).action result }
     {
         self.machine.is_shown();
-        let happening = Happening {
-            alloc: self.alloc,
-            machine: self.machine,
-            at: event.place(),
-            answer: event.answer(),
-        };
-        happening.take_step(&mut self.standing)
+        take_step(
+            self.alloc,
+            self.machine,
+            event.place(),
+            event.answer(),
+            &mut self.standing,
+        )
     }
 
     /// The machine shows one of the definitions, and the run's states stand in the scopes of that. Reads nothing, and takes

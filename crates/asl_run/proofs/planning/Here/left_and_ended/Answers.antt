@@ -7,4 +7,4 @@ pub returns : goal.returns
 returns c =
     let here = c.args.self.now in
     let output = view c.args.output.now.value in
-    planned.left_and_ended here.happening.at.now c.with_first-2.result c.ended_with.result c.left.result c.new.result.items c.in_ok-entries.entries.items (model.Ended (model.Output output)) (model.Left here.name.now output) c.new.ensures.items c.in_ok-entries.ensures c.ended_with.ensures c.with_first-2.ensures c.left.ensures
+    planned.left_and_ended here.at.now c.with_first-2.result c.ended_with.result c.left.result c.new.result.items c.in_ok-entries.entries.items (model.Ended (model.Output output)) (model.Left here.name.now output) c.new.ensures.items c.in_ok-entries.ensures c.ended_with.ensures c.with_first-2.ensures c.left.ensures
