@@ -1,6 +1,5 @@
 -- The step of an activity itself, from what is planned there.
-use Rattle.std.proofs.Common.{◌≡◌, ◌≢◌, ◌↔◌, Bool, true, false, Bor, IsTrue, is_some, not, option_map, refl, sym, ap, ◌∙◌, subst, ℕ, List, [], map, slice_get, IfSome, Option, Some, None, option_and_then, Result, Ok, Err, IfOk, Vec, Global}
-use Rattle.std.specs.Option.{unwrap_or}
+use Rattle.std.proofs.Common.{◌≡◌, ◌≢◌, ◌↔◌, Bool, true, false, Bor, IsTrue, is_some, not, option_map, refl, sym, ap, ◌∙◌, subst, ℕ, List, [], map, slice_get, IfSome, Option, Some, None, option_and_then, Ok, Err, Vec, Global}
 use Rattle.std.proofs.lemmas.Option.{get_or_from_slice_get, slice_get-map, slice_get_within}
 use Rattle.asl_states.specs.Machine.{state_view}
 use Rattle.asl_states.specs.Numbered.{AreNumbered}
