@@ -3,6 +3,7 @@
 //! [`test_files`] does what a [`TestRequest`] asks for.
 #![tactic(auto)]
 
+mod hints;
 mod loading;
 mod testing;
 

@@ -1,5 +1,6 @@
 //! From suites of test cases to which of them pass, on standard output.
 
+use crate::hints::with_hint;
 use crate::loading::{Loaded, LoadedCase, Unfit, load};
 use asl_cases::{Coverage, difference, play};
 use asl_files::{end, print_text};
@@ -208,6 +209,9 @@ fn result_of_case(
     } = case;
     let played = play(alloc, machine, declared, input, &mut answers, MOST_STEPS)?;
     coverage.add(machine, &played.trace);
-    let difference = difference(alloc, machine, &played, &expected)?;
+    let difference = match difference(alloc, machine, &played, &expected)? {
+        Some(words) => Some(with_hint(alloc, machine, &played.trace, words)?),
+        None => None,
+    };
     Ok(CaseResult { name, difference })
 }
