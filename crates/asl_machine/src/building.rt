@@ -27,6 +27,14 @@ pub(crate) struct BuiltState<'a> {
     pub(crate) home: Home<'a>,
 }
 
+/// Makes room for so many states more.
+pub(crate) fn make_room(states: usize, built: &mut Vec<BuiltState>) -> Result<(), OutOfMemory>
+    ensures same { built.new.items ≡ built.old.items }
+{
+    built.reserve(states)?;
+    Ok(())
+}
+
 /// Adds a state of that name.
 pub(crate) fn add_state<'a>(
     alloc: Global,

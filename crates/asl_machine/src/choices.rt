@@ -31,7 +31,7 @@ pub(crate) fn read_choices<'a>(
     match state.get("Choices") {
         Some(value) => match read_rules(alloc, value) {
             Ok(rules) => Ok(rules),
-            Err(fault) => Err(place.found("Choices", fault)),
+            Err(fault) => Err(place.complaint("Choices", fault)),
         },
         None => Err(place.complaint("Choices", DefFault::MissingField)),
     }

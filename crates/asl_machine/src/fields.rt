@@ -117,7 +117,7 @@ pub(crate) fn path_or_null_of<'a>(
     match object.get(field) {
         Some(value) => match read_path_or_null(alloc, value) {
             Ok(path) => Ok(path),
-            Err(fault) => Err(place.found(field, fault)),
+            Err(fault) => Err(place.complaint(field, fault)),
         },
         None => {
             let path = place.or_out_of_memory(field, whole_input(alloc))?;
@@ -140,7 +140,7 @@ pub(crate) fn path_of<'a>(
     match object.get(field) {
         Some(value) => match read_path(alloc, value) {
             Ok(path) => Ok(path),
-            Err(fault) => Err(place.found(field, fault)),
+            Err(fault) => Err(place.complaint(field, fault)),
         },
         None => place.or_out_of_memory(field, whole_input(alloc)),
     }
@@ -239,7 +239,7 @@ pub(crate) fn template_of<'a>(
     match object.get(field) {
         Some(value) => match read_template(alloc, value, item) {
             Ok(template) => Ok(Some(template)),
-            Err(fault) => Err(place.found(field, fault)),
+            Err(fault) => Err(place.complaint(field, fault)),
         },
         None => Ok(None),
     }

@@ -68,10 +68,8 @@ fn number_all<'a>(alloc: Global, rows: Vec<BuiltState<'a>>) -> Result<Numbered<'
     ensures refused { IfErr result
         (λ e. IsAmong (duplicate_complaints (names_of_rows rows.entry.items)) (refusal_view e)) }
 {
-    let mut numbered = Numbered {
-        names: IndexSet::new(alloc),
-        states: Vec::new(alloc),
-        homes: Vec::new(alloc),
+    let Ok(mut numbered) = Numbered::with_capacity(alloc, rows.len()) else {
+        return Err(DefRefusal::out_of_memory(alloc));
     };
     for row in rows {
         numbered.add(alloc, row)?;
@@ -80,6 +78,17 @@ fn number_all<'a>(alloc: Global, rows: Vec<BuiltState<'a>>) -> Result<Numbered<'
 }
 
 impl<'a> Numbered<'a> {
+    /// No states, with room for so many.
+    fn with_capacity(alloc: Global, states: usize) -> Result<Numbered<'a>, OutOfMemory>
+        ensures none { IfOk result (Holds []) }
+    {
+        Ok(Numbered {
+            names: IndexSet::with_capacity(alloc, states)?,
+            states: Vec::with_capacity(alloc, states)?,
+            homes: Vec::with_capacity(alloc, states)?,
+        })
+    }
+
     /// Adds a state. Refuses where there is one of its name.
     fn add(&mut self, alloc: Global, row: BuiltState<'a>) -> Result<(), DefRefusal>
         ensures added { OnOk result ((done : List Standing)
@@ -121,7 +130,7 @@ fn place_all(
     ensures { IfOk result (λ scopes. map scope_view scopes.items
         ≡ map (λ h. placed_in (map string_bytes names.now.keys) (home_view h)) homes.now) }
 {
-    let mut scopes = Vec::new(alloc);
+    let mut scopes = Vec::with_capacity(alloc, homes.len())?;
     for home in homes {
         scopes.push(place(names, home))?;
     }

@@ -30,8 +30,11 @@ impl<'a> Place<'a> {
     /// A fault of a field of the object that stands there. It is told at the state's own field in which the object
     /// stands, but for those faults that are told by the field's own name.
     pub(crate) fn complaint(&self, field: &'a str, fault: DefFault) -> Complaint<'a>
-        ensures { complaint_view result
+        ensures seen { complaint_view result
             ≡ option_map (complaint_at (place_view self.now) field.now) (def_fault_view fault) }
+        ensures among { (faults : List model.DefFault) → IsAmong faults (def_fault_view fault)
+            → IsAmong (map (complaint_at (place_view self.now) field.now) faults)
+            (complaint_view result) }
     {
         Complaint {
             fault,
@@ -49,15 +52,6 @@ impl<'a> Place<'a> {
             Some(own) if !is_told_by_its_name(fault) => own,
             _ => field,
         }
-    }
-
-    /// The fault that was found with the value of a field, or with its absence.
-    pub(crate) fn found(&self, field: &'a str, fault: DefFault) -> Complaint<'a>
-        ensures { (faults : List model.DefFault) → IsAmong faults (def_fault_view fault)
-            → IsAmong (map (complaint_at (place_view self.now) field.now) faults)
-            (complaint_view result) }
-    {
-        self.complaint(field, fault)
     }
 
     /// What was found wrong with the value of a field, told as such a fault.

@@ -14,7 +14,7 @@ ghost use Rattle.asl_states.specs.Machine.{state_view};
 ghost use Rattle.asl_machine.specs.Rows.{rows_view, type_view};
 ghost use Rattle.asl_machine.specs.Definition.{IsVerdict, place_view};
 
-use crate::building::{BuiltState, Home, add_state};
+use crate::building::{BuiltState, Home, add_state, make_room};
 use crate::field_checking::{check_fields, check_rows};
 use crate::fields::text_or_empty;
 use crate::kinds::{read_kind, type_of};
@@ -122,6 +122,11 @@ fn read_object_of_states<'a>(
     let Value::Object(members) = states else {
         return Ok(());
     };
+    let place = Place {
+        state: "",
+        within: None,
+    };
+    place.or_out_of_memory("", make_room(members.len(), built))?;
     read_each_state(alloc, members, scope, home, built)
 }
 

@@ -9,4 +9,4 @@ use Rattle.asl_machine.proofs.choices.read_choices.Goals as goal
 pub returns-in-Err-clause-told : goal.returns-in-Err-clause-told
 returns-in-Err-clause-told c =
     let there : get (codes "Choices") (view c.args.state.now) ≡ Some (view c.in-Some.value.now) = search rules in
-    told_given (place_view c.args.place.now) (codes "Choices") true model.RulesValue (view c.args.state.now) (view c.in-Some.value.now) c.found.result there (c.found.ensures _ c.in-Err.ensures.faults.holds)
+    told_given (place_view c.args.place.now) (codes "Choices") true model.RulesValue (view c.args.state.now) (view c.in-Some.value.now) c.complaint.result there (c.complaint.ensures.among _ c.in-Err.ensures.faults.holds)

@@ -10,4 +10,4 @@ use Rattle.asl_machine.proofs.fields.template_of.Goals as goal
 pub returns-in-Err-clause-told : goal.returns-in-Err-clause-told
 returns-in-Err-clause-told c =
     let there : get c.args.field.now (view c.args.object.now) ≡ Some (view c.in-Some.value.now) = search rules in
-    told_given (place_view c.args.place.now) c.args.field.now false (template_wanted c.args.item) (view c.args.object.now) (view c.in-Some.value.now) c.found.result there (c.found.ensures _ (subst (λ faults. IsAmong faults (def_fault_view c.in-Err.fault)) (sym (template_same c.args.item (view c.in-Some.value.now))) c.in-Err.ensures.faults.holds))
+    told_given (place_view c.args.place.now) c.args.field.now false (template_wanted c.args.item) (view c.args.object.now) (view c.in-Some.value.now) c.complaint.result there (c.complaint.ensures.among _ (subst (λ faults. IsAmong faults (def_fault_view c.in-Err.fault)) (sym (template_same c.args.item (view c.in-Some.value.now))) c.in-Err.ensures.faults.holds))

@@ -19,4 +19,4 @@ returns-in-Ok c =
     let ms = members_in (view c.args.state.now) in
     let unknown = type_unknown place ms c.in-Ok.ensures.holds c.requires in
     told_next (rows_complaints place every_state_rows ms) (unknown_type place (text_at (codes "Type") ms)) _ c.in-Ok.ensures
-    (told_head (complaint_at place (codes "Type") UnknownType) [] _ c.complaint.result unknown c.complaint.ensures)
+    (told_head (complaint_at place (codes "Type") UnknownType) [] _ c.complaint.result unknown c.complaint.ensures.seen)
