@@ -26,6 +26,8 @@ pub(crate) enum Lack {
     Absent,
     /// A field may be there that isn't taken.
     Surplus,
+    /// It may be of another kind, where a test by kind tells it from what is wanted.
+    Kind,
     /// It may be of another kind, or a list of another length.
     Other,
 }
@@ -105,9 +107,13 @@ fn lack_between(
     };
     match shapes.take_apart(inner) {
         Some(kinds) if has_other_kind(&kinds, &wanted) => {
-            Ok(Some(other_kind(alloc, shapes, inner, outer, who)?))
+            let told = other_kind(alloc, shapes, inner, outer, who)?;
+            Ok(Some((told, lack_of_kind(&kinds, &wanted))))
         }
-        None => Ok(Some(other_kind(alloc, shapes, inner, outer, who)?)),
+        None => {
+            let told = other_kind(alloc, shapes, inner, outer, who)?;
+            Ok(Some((told, Lack::Other)))
+        }
         Some(kinds) => lack_of_parts(alloc, shapes, &kinds, &wanted, who),
     }
 }
@@ -129,11 +135,36 @@ fn other_kind(
     inner: usize,
     outer: usize,
     who: &str,
-) -> Result<Told, OutOfMemory> {
+) -> Result<String, OutOfMemory> {
     let is = noted(alloc, shapes, inner)?;
     let wanted = noted(alloc, shapes, outer)?;
-    let told = format!(in alloc; " is {is}, and {who} takes {wanted}")?;
-    Ok((told, Lack::Other))
+    Ok(format!(in alloc; " is {is}, and {who} takes {wanted}")?)
+}
+
+/// How a value of the first kinds, which may be of none of the second, lacks these: whether `IsNull`, `IsNumeric`, `IsString`
+/// or `IsBoolean` leaves some of it, and only such as is of them.
+fn lack_of_kind(kinds: &NodeKinds, wanted: &NodeKinds) -> Lack {
+    let simple = [
+        (kinds.null, wanted.null),
+        (kinds.boolean, wanted.boolean),
+        (kinds.integer, wanted.integer),
+        (kinds.text, wanted.text),
+    ];
+    let is_shared = simple.iter().any(|kind| kind.0 && kind.1);
+    let others = simple.iter().filter(|kind| kind.0 && !kind.1).count();
+    if is_shared || others == 1 && are_compounds_taken(kinds, wanted) {
+        Lack::Kind
+    } else {
+        Lack::Other
+    }
+}
+
+/// Whether there are lists or objects among the first kinds, and each of the two is among the second, too.
+fn are_compounds_taken(kinds: &NodeKinds, wanted: &NodeKinds) -> bool {
+    let (lists, objects) = (kinds.arrays.is_some(), kinds.objects.is_some());
+    (lists || objects)
+        && (!lists || wanted.arrays.is_some())
+        && (!objects || wanted.objects.is_some())
 }
 
 /// What lists or objects may lack on their first level.

@@ -93,6 +93,11 @@ impl Explainer<'_> {
                 "Name by Parameters only what the task takes; or, where it takes other fields, too, leave \
                 \"additionalProperties\": false out of what it is declared to take.",
             ),
+            Some(Lack::Kind) => self.sentence(
+                "Let only what is of a kind that the task takes come here, by IsNull, IsNumeric, IsString or IsBoolean in a Choice \
+                in front and by that rule alone; see in the states in front that it is always of it; or declare that the task \
+                `takes` more or that the machine's input and other tasks give less.",
+            ),
             Some(Lack::Other) | None => self.general(fault),
         }
     }

@@ -13,6 +13,7 @@ mod differences;
 mod flows;
 mod heads;
 mod helping;
+mod idle_tests;
 mod known;
 mod lookups;
 mod misfits;

@@ -123,7 +123,7 @@ fn exit_text(alloc: Global, exit: Exit) -> Result<String, OutOfMemory> {
 }
 
 /// An exit with its number, counted from 1.
-fn numbered(alloc: Global, exit: &str, number: usize) -> Result<String, OutOfMemory> {
+pub(crate) fn numbered(alloc: Global, exit: &str, number: usize) -> Result<String, OutOfMemory> {
     let number = counted(alloc, number)?;
     Ok(format!(in alloc; " ({exit} {number})")?)
 }

@@ -32,7 +32,7 @@ impl<'m> Explainer<'m> {
 }
 
 /// Whether the path names the whole.
-fn is_whole(path: &Option<RefPath>) -> bool {
+pub(crate) fn is_whole(path: &Option<RefPath>) -> bool {
     match path {
         Some(path) => path.segments().is_empty(),
         None => false,

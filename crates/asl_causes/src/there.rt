@@ -379,7 +379,7 @@ fn is_false(rule: &ChoiceRule, tree: &Tree) -> bool {
 }
 
 /// The path of a state that has to name a value of some kind.
-fn path_in(state: &State) -> Option<&RefPath> {
+pub(crate) fn path_in(state: &State) -> Option<&RefPath> {
     match &state.kind {
         Kind::Map { items_path, .. } => Some(items_path),
         Kind::Wait {
