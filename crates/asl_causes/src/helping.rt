@@ -103,7 +103,7 @@ impl Explainer<'_> {
     }
 
     /// How a payload may lack what its task takes.
-    fn lack_of_payload(
+    pub(crate) fn lack_of_payload(
         &self,
         shapes: &mut Shapes,
         cause: Option<&Cause>,

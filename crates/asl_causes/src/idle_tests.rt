@@ -1,6 +1,7 @@
 //! Tests of choice rules that narrow nothing of the data with which a rule of the certificate is broken.
 
 use crate::causes::{Cause, Way};
+use crate::differences::Lack;
 use crate::flows::Explainer;
 use crate::origins::numbered;
 use crate::results::is_whole;
@@ -11,7 +12,7 @@ use asl_check::FindingFault;
 use asl_choice::{Test, ValueKind};
 use asl_numbered::Shapes;
 use asl_path::{RefPath, print};
-use asl_state_edges::{Broken, Destination, Step};
+use asl_state_edges::{Broken, Step};
 use asl_states::{Kind, State};
 use asl_tree::OutOfMemory;
 use asl_ways::way_to;
@@ -64,9 +65,9 @@ impl<'m> Explainer<'m> {
                 self.unsure_at(shapes, cause, broken)
             }
             Step::Breaks(_) => Ok(None),
-            Step::Flows(edge) => match edge.destination {
-                Destination::Task => Ok(Some(Unsure::SomeKind)),
-                Destination::Input(_) | Destination::Output | Destination::End => Ok(None),
+            Step::Flows(_) => match self.lack_of_payload(shapes, Some(cause))? {
+                Some(Lack::Kind) => Ok(Some(Unsure::SomeKind)),
+                Some(Lack::Absent | Lack::Surplus | Lack::Other) | None => Ok(None),
             },
         }
     }
