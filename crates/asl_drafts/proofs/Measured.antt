@@ -10,6 +10,7 @@ use Rattle.asl_numbered.specs.declared.node.NodeField.{NodeField}
 use Rattle.asl_numbered.specs.Expansion.{fields_at, shape_at, shapes_at, Keeps}
 use Rattle.asl_numbered.specs.Laws.{keeps_longer, kept_shape}
 use Rattle.asl_drafts.specs.Depths.{told_depth, told_depth_of_elements, told_depth_of_fields, AreDepths}
+use Rattle.asl_numbered.specs.Names.{Name}
 
 -- ---- the greater of two numbers
 
@@ -34,7 +35,7 @@ deeper table now left n most d all split is h =
     omega (arith, is, whole)
 
 -- one more of several fields
-pub field_deeper : (table : List model.Shape) (now left : List (String Global × NodeField)) (f : String Global × NodeField) (most d all : ℕ) → now ≡ f ∷ left → d ≡ told_depth (shape_at table f.1.shape) → max most (told_depth_of_fields (fields_at table now)) ≡ all → max (max most d) (told_depth_of_fields (fields_at table left)) ≡ all
+pub field_deeper : (table : List model.Shape) (now left : List (Name × NodeField)) (f : Name × NodeField) (most d all : ℕ) → now ≡ f ∷ left → d ≡ told_depth (shape_at table f.1.shape) → max most (told_depth_of_fields (fields_at table now)) ≡ all → max (max most d) (told_depth_of_fields (fields_at table left)) ≡ all
 field_deeper table now left f most d all split is h =
     let whole = subst (λ fs. max most (told_depth_of_fields (fields_at table fs)) ≡ all) split h in
     omega (arith, is, whole)

@@ -1,5 +1,5 @@
 -- A shape with other parts: by its first level, and cut.
-use Rattle.std.proofs.Common.{◌≡◌, ◌<◌, ◌+◌, ◌-◌, ℕ, suc, List, [], ◌∷◌, ◌++◌, length, map, take, drop, get_or, Bool, String, Global, Vec, Option, Some, None, Result, Ok, Err, IfOk, string_bytes, string_cmp, refl, sym, ap, ◌∙◌, subst, arith}
+use Rattle.std.proofs.Common.{◌≡◌, ◌<◌, ◌+◌, ◌-◌, ℕ, suc, List, [], ◌∷◌, ◌++◌, length, map, take, drop, get_or, Bool, Global, Vec, Option, Some, None, Result, Ok, Err, IfOk, refl, sym, ap, ◌∙◌, subst, arith}
 use Rattle.std.proofs.lemmas.List.{append-nil, length-append, length-drop, length-map, length-take-le, map-append, take-append-drop, take_all, take_more}
 use Rattle.std.specs.BTreeMap.{BTreeMap, insert_entry}
 use Rattle.std.specs.List.Sorted.{IsStrictlySortedBy}
@@ -16,12 +16,14 @@ use Rattle.asl_numbered.specs.declared.kinds.NodeObjects.{NodeObjects}
 use Rattle.asl_numbered.specs.declared.node.NodeField.{NodeField}
 use Rattle.asl_numbered.specs.TakenApart.{arrays_at, arrays_of, arrays_over, kinds_at, kinds_over, objects_of, objects_over, AreArraysIfAny, AreKindsAt, AreObjectsIfAny}
 use Rattle.asl_numbered.specs.Expansion.{fields_at, shape_at, shapes_at, shape_over, numbers_in, AreBelow, Keeps, RefersBelow}
-use Rattle.asl_numbered.proofs.Appending.{names, appended}
+use Rattle.asl_numbered.proofs.Appending.{shared_names, appended_by}
 use Rattle.asl_numbered.proofs.Expansions.{shape_over_stays}
 use Rattle.asl_numbered.specs.Laws.{below-append, below-wider, kept_shape}
 use Rattle.asl_drafts.specs.Cutting.{cut_to, cut_arrays_to, cut_objects_to, cut_elements_to, cut_fields_to}
 use Rattle.asl_drafts.specs.Parts.{arrays_in, arrays_with, behind_fields, behind_objects, each_of, fields_with, mention_of, mentions_of, numbers_in_arrays, numbers_in_kinds, numbers_in_objects, objects_in, objects_with, parts_of, parts_of_arrays, parts_of_objects, rebuilt_over, shapes_in, with_parts, AreFieldsWith, CanBePut, IsPut}
 use Rattle.asl_drafts.specs.declared.rebuilding.Rebuilt.{Rebuilt}
+use Rattle.std.specs.Rc.{rc_str_bytes}
+use Rattle.asl_numbered.specs.Names.{Name, name_cmp}
 
 -- ---- the parts of a shape
 
@@ -29,7 +31,7 @@ each_at : (table : List model.Shape) (ns : List ℕ) → map (shape_at table) ns
 each_at table [] = refl
 each_at table (n ∷ ns) = ap (λ ss. shape_at table n ∷ ss) (each_at table ns)
 
-fields_parts : (table : List model.Shape) (fs : List (String Global × NodeField)) (more : List ℕ) → map (shape_at table) (numbers_in fs ++ more) ≡ shapes_in (fields_at table fs) (map (shape_at table) more)
+fields_parts : (table : List model.Shape) (fs : List (Name × NodeField)) (more : List ℕ) → map (shape_at table) (numbers_in fs ++ more) ≡ shapes_in (fields_at table fs) (map (shape_at table) more)
 fields_parts table [] more = refl
 fields_parts table (f ∷ fs) more = ap (λ ss. shape_at table f.1.shape ∷ ss) (fields_parts table fs more)
 
@@ -51,19 +53,19 @@ parts_counted table kinds = sym (length-map (numbers_in_kinds kinds) (shape_at t
 
 -- ---- fields with other numbers
 
-fields_replaced : (table : List model.Shape) (fields new : List (String Global × NodeField)) → mentions_of new ≡ mentions_of fields → fields_at table new ≡ fields_with (fields_at table fields) (map (shape_at table) (numbers_in new))
+fields_replaced : (table : List model.Shape) (fields new : List (Name × NodeField)) → mentions_of new ≡ mentions_of fields → fields_at table new ≡ fields_with (fields_at table fields) (map (shape_at table) (numbers_in new))
 fields_replaced table [] [] e = refl
 fields_replaced table [] (g ∷ new) e = absurd (cc)
 fields_replaced table (f ∷ fields) [] e = absurd (cc)
 fields_replaced table (f ∷ fields) (g ∷ new) e =
     let here : mention_of g ≡ mention_of f = cc in
-    let name : string_bytes g.0 ≡ string_bytes f.0 = ap (λ m. m.0) here in
+    let name : rc_str_bytes g.0 ≡ rc_str_bytes f.0 = ap (λ m. m.0) here in
     let needed : g.1.needed ≡ f.1.needed = ap (λ m. m.1) here in
     let behind : mentions_of new ≡ mentions_of fields = cc in
     rw (name, needed, fields_replaced table fields new behind) refl
 
 -- the first level of objects with other numbers
-pub objects_replaced : (table : List model.Shape) (objects : NodeObjects) (new : BTreeMap (String Global) NodeField) (numbers : List ℕ) → AreFieldsWith objects.fields.now.entries numbers new.entries → objects_in table (Some (Object new objects.extra)) ≡ objects_with (objects_over table (Some objects)) (map (shape_at table) numbers)
+pub objects_replaced : (table : List model.Shape) (objects : NodeObjects) (new : BTreeMap Name NodeField) (numbers : List ℕ) → AreFieldsWith objects.fields.now.entries numbers new.entries → objects_in table (Some (Object new objects.extra)) ≡ objects_with (objects_over table (Some objects)) (map (shape_at table) numbers)
 objects_replaced table objects new numbers are =
     let fields = objects.fields.now.entries in
     ap (λ fs. model.ObjectsOf fs objects.extra) (fields_replaced table fields new.entries are.mentions ∙ ap (λ ns. fields_with (fields_at table fields) (map (shape_at table) ns)) are.parts)
@@ -117,7 +119,7 @@ kinds_put a b c kinds built put keeps further can arrays objects null boolean in
 
 -- ---- field by field
 
-names_mentioned : (fields new : List (String Global × NodeField)) → mentions_of new ≡ mentions_of fields → names new ≡ names fields
+names_mentioned : (fields new : List (Name × NodeField)) → mentions_of new ≡ mentions_of fields → shared_names new ≡ shared_names fields
 names_mentioned [] [] e = refl
 names_mentioned [] (g ∷ new) e = absurd (cc)
 names_mentioned (f ∷ fields) [] e = absurd (cc)
@@ -127,19 +129,19 @@ names_mentioned (f ∷ fields) (g ∷ new) e =
     rw (ap (λ (m : List ℕ × Bool). m.0) here, names_mentioned fields new behind) refl
 
 -- one more
-pub field_with : (done left : List (String Global × NodeField)) (m : String Global × NodeField) (numbers : List ℕ) (place : ℕ) (new more : List (String Global × NodeField)) (k : String Global) (f : NodeField) → IsStrictlySortedBy string_cmp (keys_of (done ++ m ∷ left)) → AreFieldsWith done (take place numbers) new → place < length numbers → string_bytes k ≡ string_bytes m.0 → f.needed ≡ m.1.needed → f.shape ≡ get_or numbers place 0 → more ≡ insert_entry string_cmp new k f → AreFieldsWith (done ++ m ∷ []) (take (place + 1) numbers) more
+pub field_with : (done left : List (Name × NodeField)) (m : Name × NodeField) (numbers : List ℕ) (place : ℕ) (new more : List (Name × NodeField)) (k : Name) (f : NodeField) → IsStrictlySortedBy name_cmp (keys_of (done ++ m ∷ left)) → AreFieldsWith done (take place numbers) new → place < length numbers → rc_str_bytes k ≡ rc_str_bytes m.0 → f.needed ≡ m.1.needed → f.shape ≡ get_or numbers place 0 → more ≡ insert_entry name_cmp new k f → AreFieldsWith (done ++ m ∷ []) (take (place + 1) numbers) more
 field_with done left m numbers place new more k f sorted are within named needed shape inserted =
-    let last : more ≡ new ++ (k, f) ∷ [] = inserted ∙ appended done m left new k f sorted (names_mentioned done new are.mentions) named in
+    let last : more ≡ new ++ (k, f) ∷ [] = inserted ∙ appended_by rc_str_bytes rc_str_bytes done m left new k f sorted (names_mentioned done new are.mentions) named in
     let mention : mention_of (k, f) ≡ mention_of m = rw (named, needed) refl in
     subst (AreFieldsWith (done ++ m ∷ []) (take (place + 1) numbers)) (sym last) (record {
       mentions = map-append mention_of new ((k, f) ∷ []) ∙ ap (λ ms. ms ++ mention_of (k, f) ∷ []) are.mentions ∙ ap (λ x. mentions_of done ++ x ∷ []) mention ∙ sym (map-append mention_of done (m ∷ []));
-      parts = map-append (λ (e : String Global × NodeField). e.1.shape) new ((k, f) ∷ []) ∙ ap (λ ns. ns ++ f.shape ∷ []) are.parts ∙ ap (λ n. take place numbers ++ n ∷ []) shape ∙ sym (take_more numbers place 0 within);
+      parts = map-append (λ (e : Name × NodeField). e.1.shape) new ((k, f) ∷ []) ∙ ap (λ ns. ns ++ f.shape ∷ []) are.parts ∙ ap (λ n. take place numbers ++ n ∷ []) shape ∙ sym (take_more numbers place 0 within);
     })
 
 -- a place is one of the numbers while a field is left
-pub place_within : (fields done left : List (String Global × NodeField)) (m : String Global × NodeField) (rest : List (String Global × NodeField)) (numbers : List ℕ) (place : ℕ) → fields ≡ done ++ left → left ≡ m ∷ rest → length numbers ≡ length (numbers_in fields) → place ≡ length done → place < length numbers
+pub place_within : (fields done left : List (Name × NodeField)) (m : Name × NodeField) (rest : List (Name × NodeField)) (numbers : List ℕ) (place : ℕ) → fields ≡ done ++ left → left ≡ m ∷ rest → length numbers ≡ length (numbers_in fields) → place ≡ length done → place < length numbers
 place_within fields done left m rest numbers place split next counted at =
-    omega (arith, counted, length-map fields (λ (e : String Global × NodeField). e.1.shape), ap length split, length-append done left, ap length next, at)
+    omega (arith, counted, length-map fields (λ (e : Name × NodeField). e.1.shape), ap length split, length-append done left, ap length next, at)
 
 -- ---- cutting
 

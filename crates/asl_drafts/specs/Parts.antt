@@ -12,6 +12,8 @@ use Rattle.asl_numbered.specs.Expansion.{numbers_in, shape_over, RefersBelow}
 use Rattle.asl_numbered.specs.Kinds.{IsProperNode}
 use Rattle.asl_numbered.specs.TakenApart.{arrays_at, arrays_of, objects_at, objects_of}
 use Rattle.asl_drafts.specs.declared.rebuilding.Rebuilt.{Rebuilt}
+use Rattle.std.specs.Rc.{rc_str_bytes}
+use Rattle.asl_numbered.specs.Names.{Name}
 
 -- the shapes in order
 abbrev pub each_of : Shapes → List Shape
@@ -116,14 +118,14 @@ pub record IsPut (old : List Shape) (level : Option Node) (new : List Shape) (nu
   pub objects : objects_at new number ≡ objects_in old level
 
 -- what a field says but for its shape
-abbrev pub mention_of : String Global × NodeField → List ℕ × Bool
-mention_of field = (string_bytes field.0, field.1.needed)
+abbrev pub mention_of : Name × NodeField → List ℕ × Bool
+mention_of field = (rc_str_bytes field.0, field.1.needed)
 
-abbrev pub mentions_of : List (String Global × NodeField) → List (List ℕ × Bool)
+abbrev pub mentions_of : List (Name × NodeField) → List (List ℕ × Bool)
 mentions_of fields = map mention_of fields
 
 -- the second fields are the first ones with those numbers in place of their own
-pub record AreFieldsWith (fields : List (String Global × NodeField)) (numbers : List ℕ)
-    (new : List (String Global × NodeField)) : Type 0 where
+pub record AreFieldsWith (fields : List (Name × NodeField)) (numbers : List ℕ)
+    (new : List (Name × NodeField)) : Type 0 where
   pub mentions : mentions_of new ≡ mentions_of fields
   pub parts : numbers_in new ≡ numbers

@@ -11,6 +11,7 @@ ghost use Rattle.asl_drafts.specs.Parts.{numbers_in_arrays, numbers_in_kinds, nu
 use asl_numbered::{NodeArrays, NodeField, NodeKinds, NodeObjects, Shapes};
 use asl_tree::OutOfMemory;
 use std::collections::BTreeMap;
+use std::rc::RcStr;
 
 /// How deep the shape of that number is, 255 where it is deeper. The depths of the first shapes are known; those of the
 /// others are added to them.
@@ -102,7 +103,7 @@ fn deepest(depths: &[u8], numbers: &[usize]) -> u8
 }
 
 /// How deep the deepest of the fields' shapes is.
-fn deepest_field(depths: &[u8], fields: &BTreeMap<String, NodeField>) -> u8
+fn deepest_field(depths: &[u8], fields: &BTreeMap<RcStr, NodeField>) -> u8
     requires { AreBelow (length depths.now) (numbers_in fields.now.entries) }
     ensures { (table : List model.Shape) → AreDepths table depths.now
         → result ≡ told_depth_of_fields (fields_at table fields.now.entries) }

@@ -11,6 +11,7 @@ use asl_numbered::{Node, NodeArrays, NodeField, NodeKinds, NodeObjects};
 use asl_tree::OutOfMemory;
 use std::alloc::Global;
 use std::collections::BTreeMap;
+use std::rc::RcStr;
 
 /// The numbers of the parts of a shape of these kinds: those of fields first, and that of further elements before those
 /// of the first ones.
@@ -37,7 +38,7 @@ fn push_fields(numbers: &mut Vec<usize>, objects: Option<NodeObjects>) -> Result
 /// Puts down the number of each field's shape.
 fn push_each(
     numbers: &mut Vec<usize>,
-    fields: &BTreeMap<String, NodeField>,
+    fields: &BTreeMap<RcStr, NodeField>,
 ) -> Result<(), OutOfMemory>
     ensures { OnOk result
         (numbers.new.items ≡ numbers.old.items ++ numbers_in fields.now.entries) }
@@ -148,9 +149,9 @@ fn objects_rebuilt(
 /// The fields with shapes of those numbers in place of their own.
 fn fields_with(
     alloc: Global,
-    fields: &BTreeMap<String, NodeField>,
+    fields: &BTreeMap<RcStr, NodeField>,
     numbers: &[usize],
-) -> Result<BTreeMap<String, NodeField>, OutOfMemory>
+) -> Result<BTreeMap<RcStr, NodeField>, OutOfMemory>
     requires { length numbers.now ≡ length (numbers_in fields.now.entries) }
     ensures { IfOk result (λ new. AreFieldsWith fields.now.entries numbers.now new.entries) }
 {

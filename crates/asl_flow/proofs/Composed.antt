@@ -10,10 +10,12 @@ use Rattle.asl_tree.specs.declared.OutOfMemory.{OutOfMemory}
 use Rattle.asl_numbered.specs.declared.node.Node.TheVariants.{List as Elements}
 use Rattle.asl_numbered.specs.declared.node.NodeField.{NodeField}
 use Rattle.asl_numbered.specs.Expansion.{shape_at, shapes_at, fields_at, shape_over, AreBelow, RefersBelow, AreNumbersOf, AreFieldsOf, Keeps, Shows}
-use Rattle.asl_numbered.proofs.Appending.{names, appended}
+use Rattle.asl_numbered.proofs.Appending.{names, shared_names, appended_by}
 use Rattle.asl_numbered.proofs.Growing.{numbers_push, numbers_kept, fields_kept}
 use Rattle.asl_numbered.specs.Laws.{below-append}
 use Rattle.asl_flow.proofs.Needed.{needed_by}
+use Rattle.std.specs.Rc.{rc_str_bytes}
+use Rattle.asl_numbered.specs.Names.{Name, name_cmp}
 
 -- the shapes of what stands in a list
 abbrev pub shapes_by : {V : Type 0} → (V → model.Shape) → List V → model.Shapes
@@ -31,21 +33,21 @@ module _ {V : Type 0} (shape : V → model.Shape) where
       let behind : shapes_at table ns ≡ shapes_by shape vs = cc in
       rw (here, shapes-push table ns n vs v behind own) refl
 
-  same-names : (table : List model.Shape) (fs : List (String Global × NodeField)) (es : List (String Global × V)) → fields_at table fs ≡ needed_by shape es → names fs ≡ names es
+  same-names : (table : List model.Shape) (fs : List (Name × NodeField)) (es : List (String Global × V)) → fields_at table fs ≡ needed_by shape es → shared_names fs ≡ names es
   same-names table [] [] e = refl
   same-names table [] (first ∷ es) e = absurd (cc)
   same-names table (f ∷ fs) [] e = absurd (cc)
   same-names table (f ∷ fs) (first ∷ es) e =
-      let own : string_bytes f.0 ≡ string_bytes first.0 = cc in
+      let own : rc_str_bytes f.0 ≡ string_bytes first.0 = cc in
       let behind : fields_at table fs ≡ needed_by shape es = cc in
       rw (own, same-names table fs es behind) refl
 
-  fields-push : (table : List model.Shape) (fs : List (String Global × NodeField)) (k : String Global) (f : NodeField) (es : List (String Global × V)) (e : String Global × V) → fields_at table fs ≡ needed_by shape es → string_bytes k ≡ string_bytes e.0 → f.needed ≡ true → shape_at table f.shape ≡ shape e.1 → fields_at table (fs ++ (k, f) ∷ []) ≡ needed_by shape (es ++ e ∷ [])
+  fields-push : (table : List model.Shape) (fs : List (Name × NodeField)) (k : Name) (f : NodeField) (es : List (String Global × V)) (e : String Global × V) → fields_at table fs ≡ needed_by shape es → rc_str_bytes k ≡ string_bytes e.0 → f.needed ≡ true → shape_at table f.shape ≡ shape e.1 → fields_at table (fs ++ (k, f) ∷ []) ≡ needed_by shape (es ++ e ∷ [])
   fields-push table [] k f [] e same named needed own = rw (named, needed, own) refl
   fields-push table [] k f (first ∷ es) e same named needed own = absurd (cc)
   fields-push table (g ∷ fs) k f [] e same named needed own = absurd (cc)
   fields-push table (g ∷ fs) k f (first ∷ es) e same named needed own =
-      let name : string_bytes g.0 ≡ string_bytes first.0 = cc in
+      let name : rc_str_bytes g.0 ≡ string_bytes first.0 = cc in
       let also : g.1.needed ≡ true = cc in
       let here : shape_at table g.1.shape ≡ shape first.1 = cc in
       let behind : fields_at table fs ≡ needed_by shape es = cc in
@@ -58,10 +60,10 @@ module _ {V : Type 0} (shape : V → model.Shape) where
       rw (more, also) (record { within = below-append (length new) ns (n ∷ []) now.within (is.within, tt); same = shapes-push new ns n before v now.same is.same })
 
   -- one more field, whose name comes last
-  pub field_more : (old new : List model.Shape) (before left : List (String Global × V)) (e : String Global × V) (fs gs : List (String Global × NodeField)) (k : String Global) (f : NodeField) → IsStrictlySortedBy string_cmp (keys_of (before ++ e ∷ left)) → Keeps old new → AreFieldsOf old (needed_by shape before) fs → string_bytes k ≡ string_bytes e.0 → f.needed ≡ true → Shows new (shape e.1) f.shape → gs ≡ insert_entry string_cmp fs k f → AreFieldsOf new (needed_by shape (before ++ e ∷ [])) gs
+  pub field_more : (old new : List model.Shape) (before left : List (String Global × V)) (e : String Global × V) (fs gs : List (Name × NodeField)) (k : Name) (f : NodeField) → IsStrictlySortedBy string_cmp (keys_of (before ++ e ∷ left)) → Keeps old new → AreFieldsOf old (needed_by shape before) fs → rc_str_bytes k ≡ string_bytes e.0 → f.needed ≡ true → Shows new (shape e.1) f.shape → gs ≡ insert_entry name_cmp fs k f → AreFieldsOf new (needed_by shape (before ++ e ∷ [])) gs
   field_more old new before left e fs gs k f sorted keeps are named needed is inserted =
       let now = fields_kept old new (needed_by shape before) fs keeps are in
-      let last : gs ≡ fs ++ (k, f) ∷ [] = inserted ∙ appended before e left fs k f sorted (same-names new fs before now.same) named in
+      let last : gs ≡ fs ++ (k, f) ∷ [] = inserted ∙ appended_by string_bytes rc_str_bytes before e left fs k f sorted (same-names new fs before now.same) named in
       rw last (record { within = numbers_push (length new) fs k f now.within is.within; same = fields-push new fs k f before e now.same named needed is.same })
 
 -- ---- numbers at hand

@@ -25,6 +25,7 @@ use Rattle.asl_flow.specs.declared.doubts.Doubt.{Doubt}
 use Rattle.asl_flow.proofs.Composed.{shapes_by}
 use Rattle.asl_flow.proofs.PutDoubts.{Told, put_behind}
 use Rattle.asl_flow.proofs.Needed.{needed_by, set_in_order}
+use Rattle.asl_numbered.specs.Names.{Name}
 
 -- no doubt is added for none
 none_added : (table : List model.Shape) (added : List Doubt) → [] ≡ map (named_fault table) added → added ≡ []
@@ -88,7 +89,7 @@ module _ (input : model.Shape) (item : Option model.Shape) where
   fields_shown (e ∷ es) h = ap (set_mention (string_bytes e.0) true (of_value e.1)) (fields_shown es h.1) ∙ set_in_order of_value e.0 (of_value e.1) es h.0
 
   -- the numbers of the fields' values, once all are gone through
-  pub fields_end : (table : List model.Shape) (all done left : List Entry) (fs : List (String Global × NodeField)) → all ≡ done ++ left → left ≡ [] → IsStrictlySortedBy string_cmp (keys_of all) → AreFieldsOf table (needed_by of_value done) fs → AreFieldsOf table (filled_fields (entries_view all) input item) fs
+  pub fields_end : (table : List model.Shape) (all done left : List Entry) (fs : List (Name × NodeField)) → all ≡ done ++ left → left ≡ [] → IsStrictlySortedBy string_cmp (keys_of all) → AreFieldsOf table (needed_by of_value done) fs → AreFieldsOf table (filled_fields (entries_view all) input item) fs
   fields_end table all done left fs split none sorted are =
       let whole : all ≡ done = split ∙ ap (λ es. done ++ es) none ∙ append-nil done in
       subst (λ ms. AreFieldsOf table ms fs) (ap (needed_by of_value) (sym whole) ∙ sym (fields_shown all sorted)) are

@@ -13,6 +13,7 @@ use Rattle.asl_tree.specs.declared.Tree.{Tree, the_lemmas}
 use Rattle.asl_tree.specs.declared.Tree as tree
 use Rattle.asl_flow.proofs.Composed.{shapes_by}
 use Rattle.asl_flow.proofs.Needed.{needed_by, set_in_order}
+use Rattle.asl_numbered.specs.Names.{Name}
 
 -- the shape of a tree that stands for itself
 abbrev pub of_itself : Tree → model.Shape
@@ -33,7 +34,7 @@ fields_shown [] h = refl
 fields_shown (e ∷ es) h = ap (set_mention (string_bytes e.0) true (of_itself e.1)) (fields_shown es h.1) ∙ set_in_order of_itself e.0 (of_itself e.1) es h.0
 
 -- the fields' numbers, once all are gone through
-pub fields_end : (table : List model.Shape) (all done left : List (String Global × Tree)) (fs : List (String Global × NodeField)) → all ≡ done ++ left → left ≡ [] → IsStrictlySortedBy string_cmp (keys_of all) → AreFieldsOf table (needed_by of_itself done) fs → AreFieldsOf table (literal_fields (trees.entries_view all)) fs
+pub fields_end : (table : List model.Shape) (all done left : List (String Global × Tree)) (fs : List (Name × NodeField)) → all ≡ done ++ left → left ≡ [] → IsStrictlySortedBy string_cmp (keys_of all) → AreFieldsOf table (needed_by of_itself done) fs → AreFieldsOf table (literal_fields (trees.entries_view all)) fs
 fields_end table all done left fs split none sorted are =
     let whole : all ≡ done = split ∙ ap (λ es. done ++ es) none ∙ append-nil done in
     subst (λ ms. AreFieldsOf table ms fs) (ap (needed_by of_itself) (sym whole) ∙ sym (fields_shown all sorted)) are

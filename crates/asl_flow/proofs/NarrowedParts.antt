@@ -1,5 +1,5 @@
 -- What narrowing by a path does to a shape of a table under the path's first segment.
-use Rattle.std.proofs.Common.{◌≡◌, ◌<◌, ℕ, List, Bool, true, false, Option, Some, None, Bor, String, Global, BTreeMap, IfSome, is_some, option_map, string_bytes, string_cmp, get_or, length, refl, sym, ap, ◌∙◌, subst}
+use Rattle.std.proofs.Common.{◌≡◌, ◌<◌, ℕ, List, Bool, true, false, Option, Some, None, Bor, String, Global, BTreeMap, IfSome, is_some, option_map, string_bytes, get_or, length, refl, sym, ap, ◌∙◌, subst}
 use lib.Dec.{ltb}
 use Rattle.std.specs.BTreeMap.{get_by}
 use Rattle.std.specs.Option.{option_copied}
@@ -13,6 +13,7 @@ use Rattle.asl_flow.proofs.NumberedParts.{place_got, place_below, mention_got, f
 use Rattle.asl_numbered.specs.declared.node.NodeField.{NodeField}
 use Rattle.asl_numbered.specs.Expansion.{shape_at, shapes_at, fields_at, numbers_in, AreBelow, Keeps, Shows}
 use Rattle.asl_numbered.specs.Laws.{kept_shape}
+use Rattle.asl_numbered.specs.Names.{Name as SharedName, text_cmp}
 
 -- ---- a place that was looked up
 
@@ -25,12 +26,12 @@ module _ (ns : List ℕ) (i : ℕ) (r : Option (Bor ℕ)) (place : Option ℕ) (
 
 -- ---- a field that was looked up
 
-module _ (k : String Global) (m : BTreeMap (String Global) NodeField) (r : Option (Bor NodeField)) (field : Option NodeField) (value : option_copied r ≡ get_by (string_cmp k) m) (is : field ≡ option_copied r) where
+module _ (k : String Global) (m : BTreeMap SharedName NodeField) (r : Option (Bor NodeField)) (field : Option NodeField) (value : option_copied r ≡ get_by (text_cmp (string_bytes k)) m) (is : field ≡ option_copied r) where
   pub mention_found : (table : List Shape) (o : Option NodeField) → field ≡ o → mention_of (string_bytes k) (fields_at table m.entries) ≡ option_map (mentioned table) o
-  mention_found table o found = mention_got table k m field (is ∙ value) ∙ ap (option_map (mentioned table)) found
+  mention_found table o found = mention_got table (string_bytes k) m field (is ∙ value) ∙ ap (option_map (mentioned table)) found
 
   pub field_within : (bound : ℕ) (f : NodeField) → field ≡ Some f → AreBelow bound (numbers_in m.entries) → f.shape < bound
-  field_within bound f found below = subst (λ o. IfSome o (λ g. g.shape < bound)) found (field_below bound k m field (is ∙ value) below)
+  field_within bound f found below = subst (λ o. IfSome o (λ g. g.shape < bound)) found (field_below bound (string_bytes k) m field (is ∙ value) below)
 
 -- ---- the shape of what is narrowed
 

@@ -1,17 +1,17 @@
 -- What one segment, and then the segments behind it, lead to in a shape of a table, by number.
-use Rattle.std.proofs.Common.{◌≡◌, ℕ, zero, suc, ◌<◌, ◌≤◌, List, [], ◌∷◌, Option, Some, None, option_map, is_some, Bor, String, Global, string_bytes, IfSome, length, get_or, refl, ap, sym, ◌∙◌, arith}
+use Rattle.std.proofs.Common.{◌≡◌, ℕ, zero, suc, ◌<◌, ◌≤◌, List, [], ◌∷◌, Option, Some, None, option_map, is_some, Bor, IfSome, length, get_or, refl, ap, sym, ◌∙◌, arith}
 use borrow.Author.Tests.{ltb-true, ltb-false}
 use lib.Dec.{ltb}
 use Rattle.std.specs.BTreeMap.{BTreeMap, get_by}
 use Rattle.std.specs.Option.{option_copied}
-use Rattle.std.specs.String.{string_cmp}
 use Rattle.asl_model.specs.Shape as model
 use Rattle.asl_model.specs.ShapeFlow.{place_at}
 use Rattle.asl_model.specs.ShapeOrder.{mention_of}
 use Rattle.asl_flow.specs.Putting.{mentioned}
 use Rattle.asl_numbered.specs.declared.node.NodeField.{NodeField}
 use Rattle.asl_numbered.specs.Expansion.{shape_at, shapes_at, fields_at, numbers_in, AreBelow}
-use Rattle.asl_numbered.proofs.Comparisons.{mention_of_number, found-below}
+use Rattle.asl_numbered.proofs.Comparisons.{mention_under, found-below}
+use Rattle.asl_numbered.specs.Names.{Name, text_cmp}
 
 -- ---- places
 
@@ -45,11 +45,15 @@ place_below bound ns i (Some x) e h below = rw h (below_at bound ns i x.now (ltb
 -- ---- fields
 
 -- the mention of a field, as the map of a node has it
-pub mention_got : (table : List model.Shape) (k : String Global) (m : BTreeMap (String Global) NodeField) (r : Option NodeField) → r ≡ get_by (string_cmp k) m → mention_of (string_bytes k) (fields_at table m.entries) ≡ option_map (mentioned table) r
-mention_got table k m r got = mention_of_number table k m.entries ∙ rw (← got) refl
+pub mention_got : (table : List model.Shape) (n : List ℕ) (m : BTreeMap Name NodeField) (r : Option NodeField) → r ≡ get_by (text_cmp n) m → mention_of n (fields_at table m.entries) ≡ option_map (mentioned table) r
+mention_got table n m r got = mention_under table n m.entries ∙ rw (← got) refl
 
-pub field_below : (bound : ℕ) (k : String Global) (m : BTreeMap (String Global) NodeField) (r : Option NodeField) → r ≡ get_by (string_cmp k) m → AreBelow bound (numbers_in m.entries) → IfSome r (λ f. f.shape < bound)
-field_below bound k m None got below = tt
-field_below bound k m (Some f) got below = found-below bound _ m.entries f below (sym got)
+-- a look-up by a text goes by its bytes alone
+pub got_under : {r : Option NodeField} (m : BTreeMap Name NodeField) {text n : List ℕ} → text ≡ n → r ≡ get_by (text_cmp text) m → r ≡ get_by (text_cmp n) m
+got_under m same got = got ∙ ap (λ n. get_by (text_cmp n) m) same
+
+pub field_below : (bound : ℕ) (n : List ℕ) (m : BTreeMap Name NodeField) (r : Option NodeField) → r ≡ get_by (text_cmp n) m → AreBelow bound (numbers_in m.entries) → IfSome r (λ f. f.shape < bound)
+field_below bound n m None got below = tt
+field_below bound n m (Some f) got below = found-below bound _ m.entries f below (sym got)
 
 -- ---- the whole path

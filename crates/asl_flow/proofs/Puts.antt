@@ -2,7 +2,6 @@
 use Rattle.std.proofs.Common.{◌≡◌, ◌<◌, ℕ, suc, ◌+◌, Bool, true, false, ◌&&◌, List, [], ◌∷◌, Option, Some, Result, Ok, Err, option_map, String, Global, string_bytes, length, get_or, drop, refl, ap, sym, ◌∙◌, subst, arith}
 use Rattle.std.specs.BTreeMap.{BTreeMap, get_by}
 use Rattle.std.specs.Prelude.{IfOk}
-use Rattle.std.specs.String.{string_cmp}
 use Rattle.asl_model.specs.Path.{Segment, Name, Index}
 use Rattle.asl_model.specs.Shape.{Shape, Arrays, WithoutArrays, ArraysOf, ObjectsOf, FieldShapes, Never, inhabited}
 use Rattle.asl_model.specs.ShapeFlow.{part_at, place_in, arrays_alone, objects_alone, put, put_under, put_in_arrays, put_mentioned, array_with, object_with, join_results}
@@ -19,6 +18,7 @@ use Rattle.asl_path.specs.declared.Segment as code
 use Rattle.asl_numbered.specs.declared.node.NodeField.{NodeField}
 use Rattle.asl_numbered.specs.Expansion.{shape_at, fields_at, AreDistinct, IsNumberOf, Keeps, Shows}
 use Rattle.asl_numbered.specs.Laws.{kept_shape, own_number}
+use Rattle.asl_numbered.specs.Names.{Name as SharedName, text_cmp}
 
 -- ---- refusals counted on
 
@@ -93,21 +93,21 @@ put_at_name go_on p w s n shapes extra mention is found = rw (is, found, alone_o
     changed (Ok u) = refl
     changed (Err at) = refl
 
-pub refused_in_object : (new : List Shape) (at : ℕ) (go_on : Shape → Result Shape ℕ) (p : List Segment) (w s : Shape) (table : List Shape) (k : String Global) (fields : BTreeMap (String Global) NodeField) (extra : Bool) (field : Option NodeField) (refusal : PutRefusal) (answer : Result ℕ PutRefusal)
-    → objects_alone s ≡ ObjectsOf (fields_at table fields.entries) extra → field ≡ get_by (string_cmp k) fields → Answers new (counted_on (at + 1) (put_mentioned go_on extra p w (option_map (mentioned table) field))) (Err refusal) → answer ≡ Err refusal
+pub refused_in_object : (new : List Shape) (at : ℕ) (go_on : Shape → Result Shape ℕ) (p : List Segment) (w s : Shape) (table : List Shape) (k : String Global) (fields : BTreeMap SharedName NodeField) (extra : Bool) (field : Option NodeField) (refusal : PutRefusal) (answer : Result ℕ PutRefusal)
+    → objects_alone s ≡ ObjectsOf (fields_at table fields.entries) extra → field ≡ get_by (text_cmp (string_bytes k)) fields → Answers new (counted_on (at + 1) (put_mentioned go_on extra p w (option_map (mentioned table) field))) (Err refusal) → answer ≡ Err refusal
     → Answers new (counted_on at (put_under go_on (Name (string_bytes k)) p w s)) answer
 refused_in_object new at go_on p w s table k fields extra field refusal answer is got h e =
-    let whole = put_at_name go_on p w s (string_bytes k) (fields_at table fields.entries) extra (option_map (mentioned table) field) is (mention_got table k fields field got) in
+    let whole = put_at_name go_on p w s (string_bytes k) (fields_at table fields.entries) extra (option_map (mentioned table) field) is (mention_got table (string_bytes k) fields field got) in
     rw e (refused_below new new at (λ u. with_field (string_bytes k) u s) _ (put_mentioned go_on extra p w (option_map (mentioned table) field)) refusal whole h)
 
-pub answered_in_object : (old mid new : List Shape) (at : ℕ) (go_on : Shape → Result Shape ℕ) (p : List Segment) (w : Shape) (number : ℕ) (k : String Global) (fields : BTreeMap (String Global) NodeField) (extra : Bool) (field : Option NodeField) (n m : ℕ)
-    → number < length old → Keeps old mid → objects_alone (shape_at old number) ≡ ObjectsOf (fields_at old fields.entries) extra → field ≡ get_by (string_cmp k) fields
+pub answered_in_object : (old mid new : List Shape) (at : ℕ) (go_on : Shape → Result Shape ℕ) (p : List Segment) (w : Shape) (number : ℕ) (k : String Global) (fields : BTreeMap SharedName NodeField) (extra : Bool) (field : Option NodeField) (n m : ℕ)
+    → number < length old → Keeps old mid → objects_alone (shape_at old number) ≡ ObjectsOf (fields_at old fields.entries) extra → field ≡ get_by (text_cmp (string_bytes k)) fields
     → Answers mid (counted_on (at + 1) (put_mentioned go_on extra p w (option_map (mentioned old) field))) (Ok n) → Shows new (with_field (string_bytes k) (shape_at mid n) (shape_at mid number)) m
     → Answers new (counted_on at (put_under go_on (Name (string_bytes k)) p w (shape_at old number))) (Ok m)
 answered_in_object old mid new at go_on p w number k fields extra field n m within keeps is got h shows =
     let table = old in
     let s = shape_at table number in
-    let whole = put_at_name go_on p w s (string_bytes k) (fields_at table fields.entries) extra (option_map (mentioned table) field) is (mention_got table k fields field got) in
+    let whole = put_at_name go_on p w s (string_bytes k) (fields_at table fields.entries) extra (option_map (mentioned table) field) is (mention_got table (string_bytes k) fields field got) in
     let shown = subst (λ t. Shows new (with_field (string_bytes k) (shape_at mid n) t) m) (kept_shape old mid number keeps within) shows in
     changed_below mid new at (λ u. with_field (string_bytes k) u s) _ (put_mentioned go_on extra p w (option_map (mentioned table) field)) n m whole h shown
 

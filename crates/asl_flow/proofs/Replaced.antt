@@ -1,5 +1,5 @@
 -- Fields and places of which one is replaced.
-use Rattle.std.proofs.Common.{◌≡◌, ◌<◌, ◌≤◌, ℕ, zero, suc, List, [], ◌∷◌, ◌++◌, Bool, true, false, IsTrue, bytes_eq, String, Global, Vec, Ordering, Less, Equal, Greater, string_bytes, string_cmp, nat_cmp, length, slice_set, refl, sym, ap, ◌∙◌, subst, arith}
+use Rattle.std.proofs.Common.{◌≡◌, ◌<◌, ◌≤◌, ℕ, zero, suc, List, [], ◌∷◌, ◌++◌, Bool, true, false, IsTrue, bytes_eq, Global, Vec, Ordering, Less, Equal, Greater, nat_cmp, length, slice_set, refl, sym, ap, ◌∙◌, subst, arith}
 use Rattle.std.proofs.lemmas.Map.Text.{is_eq-slice_cmp}
 use Rattle.std.proofs.lemmas.Slice.Eq.{bytes_eq-Decides}
 use Rattle.std.specs.BTreeMap.{BTreeMap, insert_entry}
@@ -18,6 +18,8 @@ use Rattle.asl_numbered.specs.declared.node.NodeField.{NodeField}
 use Rattle.asl_numbered.specs.declared.node.Node.TheVariants.{List as Elements, Object}
 use Rattle.asl_numbered.specs.Expansion.{shape_at, shapes_at, fields_at, numbers_in, AreBelow, RefersBelow}
 use Rattle.asl_numbered.proofs.Parts.{Entry, put-shown, put-below}
+use Rattle.std.specs.Rc.{rc_str_bytes}
+use Rattle.asl_numbered.specs.Names.{Name, name_cmp}
 
 -- ---- fields
 
@@ -53,7 +55,7 @@ put-set n s (AndFieldShape m other r shapes) proper = go (bytes_eq m n) refl (sl
 
 -- the second fields have the names and the numbers of the first
 abbrev pub AreAlike : List Entry → List Entry → Type 0
-AreAlike old new = AllZip (λ (p q : Entry). (string_bytes q.0 ≡ string_bytes p.0) × (q.1 ≡ p.1)) old new
+AreAlike old new = AllZip (λ (p q : Entry). (rc_str_bytes q.0 ≡ rc_str_bytes p.0) × (q.1 ≡ p.1)) old new
 
 alike_shown : (table : List model.Shape) (old new : List Entry) → AreAlike old new → fields_at table new ≡ fields_at table old
 alike_shown table [] [] alike = refl
@@ -68,14 +70,14 @@ alike_below bound (e ∷ old) [] alike below = absurd alike
 alike_below bound (e ∷ old) (f ∷ new) alike below = (subst (λ (g : NodeField). g.shape < bound) (sym alike.0.1) below.0, alike_below bound old new alike.1 below.1)
 
 -- inserting a field into a clone is the setting of its mention
-pub field_set : (name : List ℕ) (k : String Global) (f : NodeField) (old cloned new : List Entry) → string_bytes k ≡ name → f.needed ≡ true → AreAlike old cloned → new ≡ insert_entry string_cmp cloned k f → AreWithField name f.shape old new
+pub field_set : (name : List ℕ) (k : Name) (f : NodeField) (old cloned new : List Entry) → rc_str_bytes k ≡ name → f.needed ≡ true → AreAlike old cloned → new ≡ insert_entry name_cmp cloned k f → AreWithField name f.shape old new
 field_set name k f old cloned new same needed alike inserted = record {
   shapes = λ table proper. ap (fields_at table) inserted ∙ put-shown table cloned k f ∙ rw (same, needed, alike_shown table old cloned alike) (put-set name (shape_at table f.shape) (fields_at table old) proper);
   below = λ bound within below. subst (λ es. AreBelow bound (numbers_in es)) (sym inserted) (put-below bound cloned k f within (alike_below bound old cloned alike below));
 }
 
 -- the node with the changed fields has numbers of the table alone
-pub field_refers : (bound m : ℕ) (name : List ℕ) (old : List Entry) (new : BTreeMap (String Global) NodeField) (extra : Bool) → AreBelow bound (numbers_in old) → m < bound → AreWithField name m old new.entries → RefersBelow bound (Object new extra)
+pub field_refers : (bound m : ℕ) (name : List ℕ) (old : List Entry) (new : BTreeMap Name NodeField) (extra : Bool) → AreBelow bound (numbers_in old) → m < bound → AreWithField name m old new.entries → RefersBelow bound (Object new extra)
 field_refers bound m name old new extra below also are = record { each = are.below bound also below }
 
 -- ---- places

@@ -1,5 +1,5 @@
 -- What paths go into, in a table that has grown.
-use Rattle.std.proofs.Common.{◌≡◌, ◌<◌, List, length, Option, subst}
+use Rattle.std.proofs.Common.{List, length, Option, subst}
 use Rattle.asl_model.specs.Shape.{Shape}
 use Rattle.asl_numbered.specs.Expansion.{Keeps}
 use Rattle.asl_numbered.specs.Laws.{kept_item, kept_item_within, kept_shape, kept_within}

@@ -1,12 +1,12 @@
 -- A shape with one of its parts changed.
-use Rattle.std.specs.Prelude.{◌≡◌, ◌<◌, ℕ, List, true, String}
-use Rattle.std.specs.declared.alloc.Global.{Global}
+use Rattle.std.specs.Prelude.{◌≡◌, ◌<◌, ℕ, List, true}
 use Rattle.asl_model.specs.Shape.{Shape, ArrayShape, ObjectShape, Arrays, WithoutArrays, ArraysOf, Objects, WithoutObjects, ObjectsOf, AreProperFields}
 use Rattle.asl_model.specs.ShapeFlow.{set_place}
 use Rattle.asl_model.specs.ShapeOrder.{set_mention}
 use Rattle.asl_numbered.specs.declared.node.NodeField.{NodeField}
 use Rattle.asl_numbered.specs.TakenApart.{arrays_of, objects_of}
 use Rattle.asl_numbered.specs.Expansion.{shape_at, shapes_at, fields_at, numbers_in, AreBelow}
+use Rattle.asl_numbered.specs.Names.{Name}
 
 -- these objects with a needed field of that name and shape; where there are none, the last shape
 abbrev pub objects_with : List ℕ → Shape → Objects → Shape → Shape
@@ -27,7 +27,7 @@ abbrev pub with_place : ℕ → Shape → Shape → Shape
 with_place i w s = arrays_with i w (arrays_of s) s
 
 -- the new fields are the old ones with a needed one of that name and number, over each table in which their names ascend
-pub record AreWithField (n : List ℕ) (number : ℕ) (old new : List (String Global × NodeField)) : Type 0 where
+pub record AreWithField (n : List ℕ) (number : ℕ) (old new : List (Name × NodeField)) : Type 0 where
   pub shapes : (table : List Shape) → AreProperFields (fields_at table old)
       → fields_at table new ≡ set_mention n true (shape_at table number) (fields_at table old)
   pub below : (bound : ℕ) → number < bound → AreBelow bound (numbers_in old) → AreBelow bound (numbers_in new)

@@ -1,25 +1,28 @@
 //! Shapes made of parts that are at hand.
-ghost use Rattle.std.specs.Prelude.{◌≡◌, false, IfOk, OnOk, String, length, string_bytes, string_cmp};
+ghost use Rattle.std.specs.Prelude.{◌≡◌, false, IfOk, OnOk, length, string_bytes};
 ghost use Rattle.std.specs.BTreeMap.{insert_entry};
-ghost use Rattle.std.specs.declared.alloc.Global.{Global};
+ghost use Rattle.std.specs.Rc.{rc_str_bytes};
 ghost use Rattle.asl_model.specs.Shape as model;
 ghost use Rattle.asl_numbered.specs.Expansion.{shapes_at, fields_at, numbers_in, AreBelow, Keeps, Shows};
+ghost use Rattle.asl_numbered.specs.Names.{Name, name_cmp};
 
 use crate::numbers::put_node;
 use asl_numbered::{Node, NodeField, Shapes};
 use asl_tree::OutOfMemory;
 use std::collections::BTreeMap;
+use std::rc::RcStr;
 
-/// Inserts the field under a copy of the name.
-pub(crate) fn set_field<F: Drop>(
-    fields: &mut BTreeMap<String, F>,
+/// Inserts the field under that name.
+pub(crate) fn set_field(
+    fields: &mut BTreeMap<RcStr, NodeField>,
     name: &String,
-    field: F,
+    field: NodeField,
 ) -> Result<(), OutOfMemory>
-    ensures { OnOk result ((key : String Global) × (string_bytes key ≡ string_bytes name.now)
-        × (fields.new.entries ≡ insert_entry string_cmp fields.old.entries key field)) }
+    ensures { OnOk result ((key : Name) × (rc_str_bytes key ≡ string_bytes name.now)
+        × (fields.new.entries ≡ insert_entry name_cmp fields.old.entries key field)) }
 {
-    drop(fields.insert(name.clone()?, field)?);
+    let key = RcStr::from_string(name.clone()?)?;
+    drop(fields.insert(key, field)?);
     Ok(())
 }
 
@@ -38,7 +41,7 @@ pub(crate) fn closed_list(shapes: &mut Shapes, first: Vec<usize>) -> Result<usiz
 #[tactic(auto, using(asl_numbered::proofs::Expansions::object_refers))]
 pub(crate) fn closed_object(
     shapes: &mut Shapes,
-    fields: BTreeMap<String, NodeField>,
+    fields: BTreeMap<RcStr, NodeField>,
 ) -> Result<usize, OutOfMemory>
     requires fields { AreBelow (length shapes.old) (numbers_in fields.entries) }
     ensures shown { IfOk result

@@ -12,6 +12,7 @@ use asl_shape::Shape;
 use asl_tree::{OutOfMemory, Tree};
 use std::alloc::Global;
 use std::collections::BTreeMap;
+use std::rc::RcStr;
 
 /// The shape of a tree that stands for itself, as a Pass state's `Result` does (States Language, "Pass State"): each
 /// value's kind, lists place by place with no further element, objects closed with each field needed. Refuses only
@@ -91,7 +92,7 @@ fn field_shapes(
     alloc: Global,
     shapes: &mut Shapes,
     fields: &BTreeMap<String, Tree>,
-) -> Result<BTreeMap<String, NodeField>, OutOfMemory>
+) -> Result<BTreeMap<RcStr, NodeField>, OutOfMemory>
     ensures numbers { IfOk result
         (λ m. AreFieldsOf shapes.new
         (fields_of_literal (trees.entries_view fields.now.entries)) m.entries) }

@@ -78,7 +78,7 @@ fn narrow_field(
     let Some(objects) = kinds.objects else {
         return put_never(shapes);
     };
-    match objects.fields.get(name).copied() {
+    match objects.fields.get(name.as_str()).copied() {
         Some(field) => {
             let narrowed = narrow_to_present(alloc, shapes, field.shape, rest)?;
             put_field(shapes, number, name, narrowed)

@@ -15,6 +15,7 @@ use crate::kinds::{arrays_alone, objects_alone};
 use asl_numbered::{NodeField, Shapes};
 use asl_path::{RefPath, Segment};
 use std::collections::BTreeMap;
+use std::rc::RcStr;
 
 /// The number of the shape of what `path` names in every tree of a shape that some tree has, or the path as a doubtful one.
 pub(crate) fn look_up<'p>(shapes: &Shapes, number: usize, path: &'p RefPath) -> Found<'p>
@@ -81,13 +82,13 @@ pub(crate) fn place_of(shapes: &Shapes, number: usize, index: u32) -> Option<usi
 }
 
 /// The number of the shape of a needed field.
-pub(crate) fn needed_field(fields: &BTreeMap<String, NodeField>, name: &String) -> Option<usize>
+pub(crate) fn needed_field(fields: &BTreeMap<RcStr, NodeField>, name: &String) -> Option<usize>
     ensures part { (table : List model.Shape) → option_map (shape_at table) result
         ≡ needed_shape (mention_of (string_bytes name.now) (fields_at table fields.now.entries)) }
     ensures within { (bound : ℕ) → AreBelow bound (numbers_in fields.now.entries)
         → IfSome result (λ part. part < bound) }
 {
-    if_needed(fields.get(name)?)
+    if_needed(fields.get(name.as_str())?)
 }
 
 /// The number of the shape of a field, where it is needed.

@@ -154,7 +154,7 @@ fn put_in_object(
     let Some(objects) = objects_alone(shapes, number) else {
         return Err(PutRefusal::MayNotFit(at));
     };
-    let field = objects.fields.get(name).copied();
+    let field = objects.fields.get(name.as_str()).copied();
     let extra = objects.extra;
     let value = put_in_field(alloc, shapes, field, extra, further, at + 1, placed)?;
     Ok(put_field(shapes, number, name, value)?)

@@ -12,6 +12,7 @@ use asl_numbered::{Node, NodeField, Shapes};
 use asl_tree::OutOfMemory;
 use std::alloc::Global;
 use std::collections::BTreeMap;
+use std::rc::RcStr;
 
 /// The number of the shape of the objects alone of that number's shape, with a field of that name, which is needed and
 /// has the shape of the other number, in place of any other of its name. A shape without objects stays as it is.
@@ -67,10 +68,10 @@ pub(crate) fn put_place(
 
 /// The fields, with one of that name that is needed and has that number in place of any other of its name.
 fn with_field(
-    fields: &BTreeMap<String, NodeField>,
+    fields: &BTreeMap<RcStr, NodeField>,
     name: &String,
     number: usize,
-) -> Result<BTreeMap<String, NodeField>, OutOfMemory>
+) -> Result<BTreeMap<RcStr, NodeField>, OutOfMemory>
     ensures { IfOk result
         (λ m. AreWithField (string_bytes name.now) number fields.now.entries m.entries) }
 {

@@ -29,6 +29,7 @@ use asl_template::Template;
 use asl_tree::{OutOfMemory, Tree, WantOfMemory};
 use std::alloc::Global;
 use std::collections::BTreeMap;
+use std::rc::RcStr;
 
 /// Why a template has no shape. The name is that of the nearest field of an object, without its suffix, and empty where
 /// there is none.
@@ -242,7 +243,7 @@ fn field_shapes<'p>(
     field: &'static str,
     sources: Sources,
     doubts: &mut Vec<Doubt<'p>>,
-) -> Result<BTreeMap<String, NodeField>, OutOfMemory>
+) -> Result<BTreeMap<RcStr, NodeField>, OutOfMemory>
     requires within { IsWithin (length shapes.old) sources }
     ensures filled { IfOk result
         (λ m. AreFieldsOf shapes.new

@@ -5,6 +5,7 @@ use Rattle.asl_model.specs.Shape.{Shape}
 use Rattle.asl_numbered.specs.declared.node.NodeField.{NodeField}
 use Rattle.asl_numbered.specs.Expansion.{fields_at, shapes_at}
 use Rattle.asl_notation.specs.Notation.{untold, places_noted, elements_noted, members_noted}
+use Rattle.asl_numbered.specs.Names.{Name}
 
 each_seen : {X : Type 0} (f : X → List ℕ) (separator : List ℕ) (xs : List X) → flat_map (λ x. separator ++ f x) xs ≡ flat_map (λ part. separator ++ part) (map f xs)
 each_seen f separator [] = refl
@@ -29,6 +30,6 @@ elements_cut below width table [] rest none some = absurd (omega (arith, some))
 elements_cut below width table (n ∷ ns) rest none some = rw none refl
 
 -- fields below the depth
-pub members_cut : (below : Option (Shape → List ℕ)) (width : ℕ) (table : List Shape) (fs : List (String Global × NodeField)) (extra : Bool) → below ≡ None → 0 < length fs → members_noted below width (fields_at table fs) extra ≡ untold ∷ []
+pub members_cut : (below : Option (Shape → List ℕ)) (width : ℕ) (table : List Shape) (fs : List (Name × NodeField)) (extra : Bool) → below ≡ None → 0 < length fs → members_noted below width (fields_at table fs) extra ≡ untold ∷ []
 members_cut below width table [] extra none some = absurd (omega (arith, some))
 members_cut below width table (f ∷ fs) extra none some = rw none refl

@@ -12,6 +12,7 @@ use asl_numbered::{NodeArrays, NodeField, NodeObjects, Shapes};
 use asl_tree::OutOfMemory;
 use std::alloc::Global;
 use std::collections::BTreeMap;
+use std::rc::RcStr;
 
 /// The short notation of the shape of that number: see the head of this crate. A number that isn't in the table has no
 /// tree: `nothing`. The text grows with the limits, never with what the table has beyond them. Refuses only where an
@@ -222,7 +223,7 @@ fn push_fields(
     alloc: Global,
     parts: &mut Vec<String>,
     shapes: &Shapes,
-    fields: &BTreeMap<String, NodeField>,
+    fields: &BTreeMap<RcStr, NodeField>,
     limits: Limits,
 ) -> Result<(), OutOfMemory>
     ensures { OnOk result (map string_bytes parts.new.items

@@ -12,7 +12,6 @@ use Rattle.asl_model.specs.Shape.{Shape, Any, OfKinds, Arrays, WithoutArrays, Ar
 use Rattle.asl_model.specs.ShapeOrder.{kept_arrays}
 use Rattle.asl_model.specs.Tree as model
 use Rattle.asl_model.specs.Tree.{Array, Fields, NoFields, AndField, trees_of}
-use Rattle.asl_tree.proofs.Texts.{after_first}
 use Rattle.asl_tree.proofs.Views.{Entry, entries_view-insert_entry, put}
 use Rattle.asl_tree.specs.View.{view, entries_view}
 use Rattle.asl_tree.specs.declared.Tree.{Tree}
@@ -23,6 +22,9 @@ use Rattle.asl_numbered.specs.Examples.{examples_at, without, is_omitted}
 use Rattle.asl_numbered.specs.Expansion.{shape_at, shapes_at, fields_at}
 use Rattle.asl_numbered.specs.Joins.{kept}
 use Rattle.asl_numbered.specs.TakenApart.{arrays_over, kinds_over}
+use Rattle.asl_numbered.specs.Names.{Name, name_cmp}
+use Rattle.std.specs.Rc.{rc_str_bytes}
+use Rattle.asl_numbered.proofs.Appending.{after_first}
 
 -- ---- a list
 
@@ -102,40 +104,40 @@ but-same n None t fs same = absurd (cc)
 but-same n (Some k) t fs same = without-same n k t fs same
 
 -- one more field behind others: needed, or not
-needed-last : (table : List Shape) (done : List (String Global × NodeField)) (f : String Global × NodeField) → f.1.needed ≡ true → needed_examples (fields_at table (done ++ f ∷ [])) ≡ with_last (string_bytes f.0) (example (shape_at table f.1.shape)) (needed_examples (fields_at table done))
+needed-last : (table : List Shape) (done : List (Name × NodeField)) (f : Name × NodeField) → f.1.needed ≡ true → needed_examples (fields_at table (done ++ f ∷ [])) ≡ with_last (rc_str_bytes f.0) (example (shape_at table f.1.shape)) (needed_examples (fields_at table done))
 needed-last table [] f is = rw is refl
 needed-last table (first ∷ done) f is = go first.1.needed refl (needed-last table done f is)
   where
-    go : (needed : Bool) → first.1.needed ≡ needed → needed_examples (fields_at table (done ++ f ∷ [])) ≡ with_last (string_bytes f.0) (example (shape_at table f.1.shape)) (needed_examples (fields_at table done))
-        → needed_examples (fields_at table (first ∷ done ++ f ∷ [])) ≡ with_last (string_bytes f.0) (example (shape_at table f.1.shape)) (needed_examples (fields_at table (first ∷ done)))
-    go true at below = rw at (ap (AndField (string_bytes first.0) (example (shape_at table first.1.shape))) below)
+    go : (needed : Bool) → first.1.needed ≡ needed → needed_examples (fields_at table (done ++ f ∷ [])) ≡ with_last (rc_str_bytes f.0) (example (shape_at table f.1.shape)) (needed_examples (fields_at table done))
+        → needed_examples (fields_at table (first ∷ done ++ f ∷ [])) ≡ with_last (rc_str_bytes f.0) (example (shape_at table f.1.shape)) (needed_examples (fields_at table (first ∷ done)))
+    go true at below = rw at (ap (AndField (rc_str_bytes first.0) (example (shape_at table first.1.shape))) below)
     go false at below = rw at below
 
-pub needed_not : (table : List Shape) (done : List (String Global × NodeField)) (f : String Global × NodeField) → f.1.needed ≡ false → needed_examples (fields_at table (done ++ f ∷ [])) ≡ needed_examples (fields_at table done)
+pub needed_not : (table : List Shape) (done : List (Name × NodeField)) (f : Name × NodeField) → f.1.needed ≡ false → needed_examples (fields_at table (done ++ f ∷ [])) ≡ needed_examples (fields_at table done)
 needed_not table [] f is = rw is refl
 needed_not table (first ∷ done) f is = rw (needed_not table done f is) refl
 
-needed-behind : (table : List Shape) (done : List (String Global × NodeField)) (f : String Global × NodeField) (more : List (String Global × NodeField)) → IsStrictlySortedBy string_cmp (keys_of (done ++ f ∷ more)) → IsBehind (string_bytes f.0) (needed_examples (fields_at table done))
+needed-behind : (table : List Shape) (done : List (Name × NodeField)) (f : Name × NodeField) (more : List (Name × NodeField)) → IsStrictlySortedBy name_cmp (keys_of (done ++ f ∷ more)) → IsBehind (rc_str_bytes f.0) (needed_examples (fields_at table done))
 unfolding IsStrictlySortedBy
 needed-behind table [] f more h = tt
 needed-behind table (first ∷ done) f more h = go first.1.needed refl (needed-behind table done f more h.1)
   where
-    go : (needed : Bool) → first.1.needed ≡ needed → IsBehind (string_bytes f.0) (needed_examples (fields_at table done)) → IsBehind (string_bytes f.0) (needed_examples (fields_at table (first ∷ done)))
+    go : (needed : Bool) → first.1.needed ≡ needed → IsBehind (rc_str_bytes f.0) (needed_examples (fields_at table done)) → IsBehind (rc_str_bytes f.0) (needed_examples (fields_at table (first ∷ done)))
     go true at below = rw at (after_first first done f more h.0, below)
     go false at below = rw at below
 
 -- a needed field is put behind the others
-pub needed_put : (table : List Shape) (done left : List (String Global × NodeField)) (f : String Global × NodeField) (omitted : Option (List ℕ)) (es new : List Entry) (k : String Global) (t : Tree) → IsStrictlySortedBy string_cmp (keys_of (done ++ f ∷ left)) → entries_view es ≡ without omitted (needed_examples (fields_at table done)) → string_bytes k ≡ string_bytes f.0 → f.1.needed ≡ true → is_omitted omitted (string_bytes f.0) ≡ false → view t ≡ example (shape_at table f.1.shape) → new ≡ insert_entry string_cmp es k t
+pub needed_put : (table : List Shape) (done left : List (Name × NodeField)) (f : Name × NodeField) (omitted : Option (List ℕ)) (es new : List Entry) (k : String Global) (t : Tree) → IsStrictlySortedBy name_cmp (keys_of (done ++ f ∷ left)) → entries_view es ≡ without omitted (needed_examples (fields_at table done)) → string_bytes k ≡ rc_str_bytes f.0 → f.1.needed ≡ true → is_omitted omitted (rc_str_bytes f.0) ≡ false → view t ≡ example (shape_at table f.1.shape) → new ≡ insert_entry string_cmp es k t
     → entries_view new ≡ without omitted (needed_examples (fields_at table (done ++ f ∷ [])))
 needed_put table done left f omitted es new k t sorted so_far named needed other own inserted =
-    let behind = behind-but (string_bytes f.0) omitted (needed_examples (fields_at table done)) (needed-behind table done f left sorted) in
-    ap entries_view inserted ∙ entries_view-insert_entry es k t ∙ rw (named, own, so_far) (put-behind (string_bytes f.0) (example (shape_at table f.1.shape)) (without omitted (needed_examples (fields_at table done))) behind)
-    ∙ sym (but-last (string_bytes f.0) omitted (example (shape_at table f.1.shape)) (needed_examples (fields_at table done)) other) ∙ sym (ap (without omitted) (needed-last table done f needed))
+    let behind = behind-but (rc_str_bytes f.0) omitted (needed_examples (fields_at table done)) (needed-behind table done f left sorted) in
+    ap entries_view inserted ∙ entries_view-insert_entry es k t ∙ rw (named, own, so_far) (put-behind (rc_str_bytes f.0) (example (shape_at table f.1.shape)) (without omitted (needed_examples (fields_at table done))) behind)
+    ∙ sym (but-last (rc_str_bytes f.0) omitted (example (shape_at table f.1.shape)) (needed_examples (fields_at table done)) other) ∙ sym (ap (without omitted) (needed-last table done f needed))
 
 -- one that is omitted isn't
-pub needed_omitted : (table : List Shape) (done : List (String Global × NodeField)) (f : String Global × NodeField) (omitted : Option (List ℕ)) → f.1.needed ≡ true → is_omitted omitted (string_bytes f.0) ≡ true → without omitted (needed_examples (fields_at table (done ++ f ∷ []))) ≡ without omitted (needed_examples (fields_at table done))
+pub needed_omitted : (table : List Shape) (done : List (Name × NodeField)) (f : Name × NodeField) (omitted : Option (List ℕ)) → f.1.needed ≡ true → is_omitted omitted (rc_str_bytes f.0) ≡ true → without omitted (needed_examples (fields_at table (done ++ f ∷ []))) ≡ without omitted (needed_examples (fields_at table done))
 needed_omitted table done f omitted needed is =
-    ap (without omitted) (needed-last table done f needed) ∙ but-same (string_bytes f.0) omitted (example (shape_at table f.1.shape)) (needed_examples (fields_at table done)) is
+    ap (without omitted) (needed-last table done f needed) ∙ but-same (rc_str_bytes f.0) omitted (example (shape_at table f.1.shape)) (needed_examples (fields_at table done)) is
 
 -- ---- what is told of an example
 

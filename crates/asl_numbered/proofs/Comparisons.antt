@@ -1,5 +1,5 @@
 -- One shape of a table inside another, by their numbers: what is remembered, tasks, places and fields.
-use Rattle.std.proofs.Common.{◌≡◌, ◌<◌, ◌≤◌, ◌+◌, ◌*◌, ℕ, zero, suc, List, [], ◌∷◌, ◌++◌, length, drop, get_or, Bool, true, false, ◌&&◌, ◌||◌, not, cond, append_assoc, Option, Some, None, option_map, is_some, String, Global, Result, Ok, Err, string_bytes, refl, sym, ap, ◌∙◌, subst, ◌⊎◌, inl, inr, arith}
+use Rattle.std.proofs.Common.{◌≡◌, ◌<◌, ◌≤◌, ◌+◌, ◌*◌, ℕ, zero, suc, List, [], ◌∷◌, ◌++◌, length, drop, get_or, Bool, true, false, ◌&&◌, ◌||◌, not, cond, append_assoc, Option, Some, None, option_map, is_some, Result, Ok, Err, refl, sym, ap, ◌∙◌, subst, ◌⊎◌, inl, inr, arith}
 use Rattle.std.proofs.Math.Bool.{and_assoc}
 use Rattle.std.proofs.Math.Nat.{mul-le-mul_left}
 use Rattle.std.proofs.Math.Seq.{drop-cons}
@@ -8,7 +8,6 @@ use Rattle.std.proofs.lemmas.List.{append-nil, length-append}
 use Rattle.std.specs.BTreeMap.{is_at}
 use Rattle.std.specs.Map.{lookup}
 use Rattle.std.specs.Prelude.{IfOk, IsTrue, ◌↔◌}
-use Rattle.std.specs.String.{string_cmp}
 use Rattle.indexmap.specs.IndexMap.{insert_entry}
 use Rattle.asl_model.specs.Examples.{count_mentions}
 use Rattle.asl_model.specs.Shape as model
@@ -29,6 +28,8 @@ use Rattle.asl_numbered.specs.Expansion.{shape_at, shapes_at, fields_at, numbers
 use Rattle.asl_numbered.specs.TakenApart.{simple_of, arrays_over, objects_over, kinds_over, AreArraysAt, AreObjectsAt, AreArraysIfAny, AreObjectsIfAny}
 use Rattle.asl_numbered.proofs.Remembered.{same, each_kept, each_put, each_found}
 use Rattle.asl_numbered.specs.Laws.{below-wider, keeps_longer, kept_shape}
+use Rattle.asl_numbered.specs.Names.{Name, text_cmp, name_cmp}
+use Rattle.std.specs.Rc.{rc_str_bytes}
 
 -- ---- what is remembered
 
@@ -203,19 +204,25 @@ there-or : {A : Type 0} (x : A) (b : Bool) (s : Option A) → (b || is_some s) �
 there-or x true s = refl
 there-or x false s = refl
 
-pub mentions_number : (table : List model.Shape) (k : String Global) (fs : List (String Global × NodeField)) → mentions (string_bytes k) (fields_at table fs) ≡ is_some (lookup (is_at (string_cmp k)) fs)
-mentions_number table k [] = refl
-mentions_number table k (f ∷ fs) =
-    rw (same_name (string_bytes k) (string_bytes f.0), mentions_number table k fs) (there-or f.1 _ _)
+pub mentions_under : (table : List model.Shape) (n : List ℕ) (fs : List (Name × NodeField)) → mentions n (fields_at table fs) ≡ is_some (lookup (is_at (text_cmp n)) fs)
+mentions_under table n [] = refl
+mentions_under table n (f ∷ fs) =
+    rw (same_name n (rc_str_bytes f.0), mentions_under table n fs) (there-or f.1 _ _)
 
-pub mention_of_number : (table : List model.Shape) (k : String Global) (fs : List (String Global × NodeField)) → mention_of (string_bytes k) (fields_at table fs) ≡ option_map (λ f. (f.needed, shape_at table f.shape)) (lookup (is_at (string_cmp k)) fs)
-mention_of_number table k [] = refl
-mention_of_number table k (f ∷ fs) =
-    rw (same_name (string_bytes k) (string_bytes f.0), mention_of_number table k fs) (picked (λ (x : NodeField). (x.needed, shape_at table x.shape)) f.1 _ _)
+pub mentions_number : (table : List model.Shape) (k : Name) (fs : List (Name × NodeField)) → mentions (rc_str_bytes k) (fields_at table fs) ≡ is_some (lookup (is_at (name_cmp k)) fs)
+mentions_number table k fs = mentions_under table (rc_str_bytes k) fs
+
+pub mention_under : (table : List model.Shape) (n : List ℕ) (fs : List (Name × NodeField)) → mention_of n (fields_at table fs) ≡ option_map (λ f. (f.needed, shape_at table f.shape)) (lookup (is_at (text_cmp n)) fs)
+mention_under table n [] = refl
+mention_under table n (f ∷ fs) =
+    rw (same_name n (rc_str_bytes f.0), mention_under table n fs) (picked (λ (x : NodeField). (x.needed, shape_at table x.shape)) f.1 _ _)
+
+pub mention_of_number : (table : List model.Shape) (k : Name) (fs : List (Name × NodeField)) → mention_of (rc_str_bytes k) (fields_at table fs) ≡ option_map (λ f. (f.needed, shape_at table f.shape)) (lookup (is_at (name_cmp k)) fs)
+mention_of_number table k fs = mention_under table (rc_str_bytes k) fs
 
 -- ---- fields
 
-pub found-below : (bound : ℕ) (test : String Global → Bool) (fs : List (String Global × NodeField)) (f : NodeField) → AreBelow bound (numbers_in fs) → lookup test fs ≡ Some f → f.shape < bound
+pub found-below : (bound : ℕ) (test : Name → Bool) (fs : List (Name × NodeField)) (f : NodeField) → AreBelow bound (numbers_in fs) → lookup test fs ≡ Some f → f.shape < bound
 found-below bound test [] f h found = absurd (cc)
 found-below bound test (e ∷ fs) f h found = go (test e.0) refl (λ below. found-below bound test fs f h.1 below)
   where
@@ -226,19 +233,19 @@ found-below bound test (e ∷ fs) f h found = go (test e.0) refl (λ below. foun
         subst (λ (x : NodeField). x.shape < bound) own h.0
     go false is later = later (rw is at found)
 
-field-comparisons : (table : List model.Shape) (bound : ℕ) (inner outer : List (String Global × NodeField)) → AreBelow bound (numbers_in inner) → bound ≤ length table → AreBelow (length table) (numbers_in outer) → AreComparisons table bound (field_tasks inner outer)
+field-comparisons : (table : List model.Shape) (bound : ℕ) (inner outer : List (Name × NodeField)) → AreBelow bound (numbers_in inner) → bound ≤ length table → AreBelow (length table) (numbers_in outer) → AreComparisons table bound (field_tasks inner outer)
 field-comparisons table bound inner [] h most b = tt
-field-comparisons table bound inner (f ∷ outer) h most b = go (lookup (is_at (string_cmp f.0)) inner) refl (field-comparisons table bound inner outer h most b.1)
+field-comparisons table bound inner (f ∷ outer) h most b = go (lookup (is_at (name_cmp f.0)) inner) refl (field-comparisons table bound inner outer h most b.1)
   where
-    go : (o : Option NodeField) → lookup (is_at (string_cmp f.0)) inner ≡ o → AreComparisons table bound (field_tasks inner outer) → AreComparisons table bound (with_field_task o f.1 (field_tasks inner outer))
+    go : (o : Option NodeField) → lookup (is_at (name_cmp f.0)) inner ≡ o → AreComparisons table bound (field_tasks inner outer) → AreComparisons table bound (with_field_task o f.1 (field_tasks inner outer))
     go None at behind = behind
     go (Some other) at behind =
-        let below = found-below bound (is_at (string_cmp f.0)) inner other h at in
+        let below = found-below bound (is_at (name_cmp f.0)) inner other h at in
         (record { first = omega (arith, below); second = b.0 }, below, behind)
 
-field-count : (inner outer : List (String Global × NodeField)) → length (field_tasks inner outer) ≤ length (numbers_in outer)
+field-count : (inner outer : List (Name × NodeField)) → length (field_tasks inner outer) ≤ length (numbers_in outer)
 field-count inner [] = omega arith
-field-count inner (f ∷ outer) = go (lookup (is_at (string_cmp f.0)) inner) (field-count inner outer)
+field-count inner (f ∷ outer) = go (lookup (is_at (name_cmp f.0)) inner) (field-count inner outer)
   where
     go : (o : Option NodeField) → length (field_tasks inner outer) ≤ length (numbers_in outer) → length (with_field_task o f.1 (field_tasks inner outer)) ≤ suc (length (numbers_in outer))
     go None h = omega (arith, h)
@@ -252,10 +259,10 @@ middle true false true d = refl
 middle true false false d = refl
 
 -- what is said of the fields apart from their shapes, and then the shapes
-fields-inside : (table : List model.Shape) (inner : List (String Global × NodeField)) (more : Bool) (outer : List (String Global × NodeField)) → fields_sub (fields_at table inner) more (fields_at table outer) ≡ (mentions_fit_in table inner more outer && all_inside table (field_tasks inner outer))
+fields-inside : (table : List model.Shape) (inner : List (Name × NodeField)) (more : Bool) (outer : List (Name × NodeField)) → fields_sub (fields_at table inner) more (fields_at table outer) ≡ (mentions_fit_in table inner more outer && all_inside table (field_tasks inner outer))
 fields-inside table inner more [] = refl
 fields-inside table inner more (f ∷ outer) =
-    rw (mention_of_number table f.0 inner, fields-inside table inner more outer) (go (lookup (is_at (string_cmp f.0)) inner))
+    rw (mention_of_number table f.0 inner, fields-inside table inner more outer) (go (lookup (is_at (name_cmp f.0)) inner))
   where
     swapped : (a b : Bool) → (a || not b) ≡ (not b || a)
     swapped true true = refl
@@ -320,7 +327,7 @@ arrays_put table p inner outer a b live old middle new within e f are others is 
 
 -- ---- objects
 
-counted-fields : (table : List model.Shape) (fs : List (String Global × NodeField)) → count_mentions (fields_at table fs) ≡ length (numbers_in fs)
+counted-fields : (table : List model.Shape) (fs : List (Name × NodeField)) → count_mentions (fields_at table fs) ≡ length (numbers_in fs)
 counted-fields table [] = refl
 counted-fields table (f ∷ fs) = ap suc (counted-fields table fs)
 

@@ -1,5 +1,5 @@
 -- The shapes that nodes stand for: what a further node changes, and what stays.
-use Rattle.std.proofs.Common.{◌≡◌, ◌<◌, ℕ, zero, suc, ◌+◌, List, [], ◌∷◌, ◌++◌, length, map, Bool, String, Global, Some, slice_get, Vec, refl, sym, ap, ◌∙◌, subst, arith}
+use Rattle.std.proofs.Common.{◌≡◌, ◌<◌, ℕ, zero, suc, ◌+◌, List, [], ◌∷◌, ◌++◌, length, map, Bool, Global, Some, slice_get, Vec, refl, sym, ap, ◌∙◌, subst, arith}
 use Rattle.std.proofs.lemmas.List.{get_or_append_left, get_or_push, length_push}
 use Rattle.std.specs.BTreeMap.{BTreeMap}
 use Rattle.asl_model.specs.Shape as model
@@ -9,6 +9,7 @@ use Rattle.asl_numbered.specs.declared.node.Node.TheVariants.{Any, Never, Null, 
 use Rattle.asl_numbered.specs.declared.node.NodeField.{NodeField}
 use Rattle.asl_numbered.specs.Laws.{keeps_same, keeps_trans, kept_shape}
 use Rattle.asl_numbered.specs.Expansion.{shape_at, shapes_at, fields_at, shape_over, numbers_in, parts, AreBelow, RefersBelow, expansions_after, expansions, Keeps}
+use Rattle.asl_numbered.specs.Names.{Name}
 
 -- ---- what a node refers to
 
@@ -18,7 +19,7 @@ simple_refers bound node none = record { each = rw none tt }
 pub list_refers : (bound : ℕ) (first : Vec ℕ Global) (rest : ℕ) → rest < bound → AreBelow bound first.items → RefersBelow bound (Elements first rest)
 list_refers bound first rest h below = record { each = (h, below) }
 
-pub object_refers : (bound : ℕ) (fields : BTreeMap (String Global) NodeField) (extra : Bool) → AreBelow bound (numbers_in fields.entries) → RefersBelow bound (Object fields extra)
+pub object_refers : (bound : ℕ) (fields : BTreeMap Name NodeField) (extra : Bool) → AreBelow bound (numbers_in fields.entries) → RefersBelow bound (Object fields extra)
 object_refers bound fields extra below = record { each = below }
 
 pub several_refers : (bound : ℕ) (numbers : Vec ℕ Global) → AreBelow bound numbers.items → RefersBelow bound (Several numbers)
@@ -37,7 +38,7 @@ pub list_stays : (table added : List model.Shape) (ns : List ℕ) → AreBelow (
 list_stays table added [] h = refl
 list_stays table added (n ∷ ns) h = rw (shape_at_stays table added n h.0, list_stays table added ns h.1) refl
 
-pub fields_at_stay : (table added : List model.Shape) (fs : List (String Global × NodeField)) → AreBelow (length table) (numbers_in fs) → fields_at (table ++ added) fs ≡ fields_at table fs
+pub fields_at_stay : (table added : List model.Shape) (fs : List (Name × NodeField)) → AreBelow (length table) (numbers_in fs) → fields_at (table ++ added) fs ≡ fields_at table fs
 fields_at_stay table added [] h = refl
 fields_at_stay table added (f ∷ fs) h = rw (shape_at_stays table added f.1.shape h.0, fields_at_stay table added fs h.1) refl
 

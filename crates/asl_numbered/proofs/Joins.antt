@@ -1,9 +1,8 @@
 -- The joins of shapes of a table, by their numbers: what is remembered, and what tasks do.
-use Rattle.std.proofs.Common.{◌≡◌, ◌<◌, ◌≤◌, ◌+◌, ℕ, zero, suc, max, List, [], ◌∷◌, ◌++◌, length, drop, Bool, true, false, Option, Some, None, refl, sym, ap, ◌∙◌, subst, arith, ◌⊎◌, inl, inr, min, String, Global, append_assoc, bytes_eq}
+use Rattle.std.proofs.Common.{◌≡◌, ◌<◌, ◌≤◌, ◌+◌, ℕ, zero, suc, max, List, [], ◌∷◌, ◌++◌, length, drop, Bool, true, false, Option, Some, None, refl, sym, ap, ◌∙◌, subst, arith, ◌⊎◌, inl, inr, min, append_assoc, bytes_eq}
 use Rattle.std.proofs.lemmas.Bool.{cases_lt}
 use Rattle.std.proofs.lemmas.List.{append-nil, map-append}
 use Rattle.std.specs.BTreeMap.{is_at}
-use Rattle.std.specs.String.{string_cmp}
 use Rattle.std.specs.Map.{lookup}
 use Rattle.std.specs.Prelude.{if◌then◌else◌}
 use Rattle.indexmap.specs.IndexMap.{insert_entry}
@@ -22,6 +21,7 @@ use Rattle.asl_numbered.specs.Joins.{joint, IsJoin, AreJoins, place_joins, Step,
 use Rattle.asl_numbered.proofs.Comparisons.{within_kept}
 use Rattle.asl_numbered.proofs.Remembered.{same, each_kept, each_put, each_found}
 use Rattle.asl_numbered.specs.Laws.{keeps_longer, kept_shape}
+use Rattle.asl_numbered.specs.Names.{Name, name_cmp}
 
 -- ---- what is remembered
 
@@ -134,7 +134,7 @@ none_put tasks ps os k is = sym (ap (λ more. tasks ++ more) (no-places k ps os 
     past (inr h) = inr (omega (arith, is, h))
 
 -- a field that the other object doesn't mention
-pub field_skipped : (tasks base : List JoinTask) (e : String Global × NodeField) (fields others : List (String Global × NodeField)) → tasks ≡ base ++ field_joinings fields others → lookup (is_at (string_cmp e.0)) others ≡ None → tasks ≡ base ++ field_joinings (e ∷ fields) others
+pub field_skipped : (tasks base : List JoinTask) (e : Name × NodeField) (fields others : List (Name × NodeField)) → tasks ≡ base ++ field_joinings fields others → lookup (is_at (name_cmp e.0)) others ≡ None → tasks ≡ base ++ field_joinings (e ∷ fields) others
 field_skipped tasks base e fields others so_far none =
     so_far ∙ ap (λ more. base ++ more) (sym (ap (λ o. field_joinings fields others ++ field_joining e.1 o) none ∙ append-nil (field_joinings fields others)))
 

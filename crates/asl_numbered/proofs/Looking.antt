@@ -1,11 +1,10 @@
 -- What a look at two shapes of a table puts down: the joins of their parts.
-use Rattle.std.proofs.Common.{◌≡◌, ◌<◌, ◌≤◌, ◌+◌, ℕ, List, [], ◌∷◌, ◌++◌, length, take, drop, Bool, true, false, Option, Some, None, option_map, refl, sym, ap, ◌∙◌, subst, arith, ◌⊎◌, inl, inr, String, Global, append_assoc}
+use Rattle.std.proofs.Common.{◌≡◌, ◌<◌, ◌≤◌, ◌+◌, ℕ, List, [], ◌∷◌, ◌++◌, length, take, drop, Bool, true, false, Option, Some, None, option_map, refl, sym, ap, ◌∙◌, subst, arith, ◌⊎◌, inl, inr, append_assoc}
 use Rattle.std.proofs.Math.Seq.{drop-append_seam, take-append_seam}
 use Rattle.std.proofs.lemmas.List.{append-nil, length-append, length-map, map-append}
 use Rattle.std.specs.BTreeMap.{is_at}
 use Rattle.std.specs.Map.{lookup}
 use Rattle.std.specs.Prelude.{if◌then◌else◌}
-use Rattle.std.specs.String.{string_cmp}
 use Rattle.asl_model.specs.Shape as model
 use Rattle.asl_model.specs.Shape.{Shape, Any, OfKinds, Arrays, WithoutArrays, ArraysOf, Objects, WithoutObjects, ObjectsOf, Shapes, some_array, some_object}
 use Rattle.asl_model.specs.ShapeOrder.{further_places, joined_with_each, kept_arrays, kept_objects, join}
@@ -23,6 +22,7 @@ use Rattle.asl_numbered.specs.Joins.{place_joins, with_field_join, field_joins, 
 use Rattle.asl_numbered.proofs.Comparisons.{mention_of_number, found-below}
 use Rattle.asl_numbered.proofs.Joins.{done_append, work_append, joined_behind, last_behind, with_each, with_each_work, places_each, places_each_work, parts_cheaper, behind_one, behind_each}
 use Rattle.asl_numbered.specs.Laws.{below-drop}
+use Rattle.asl_numbered.specs.Names.{Name, name_cmp}
 
 -- ---- tasks for parts
 
@@ -65,14 +65,14 @@ with-parts : (table : List Shape) (ns : List ℕ) → AreBelow (length table) ns
 with-parts table [] h = tt
 with-parts table (n ∷ ns) h = parts-append table (joinings_with ns) (With n ∷ []) (with-parts table ns h.1) (h.0, tt)
 
-field-parts : (table : List Shape) (fs os : List (String Global × NodeField)) → AreBelow (length table) (numbers_in fs) → AreBelow (length table) (numbers_in os) → AreParts table (field_joinings fs os)
+field-parts : (table : List Shape) (fs os : List (Name × NodeField)) → AreBelow (length table) (numbers_in fs) → AreBelow (length table) (numbers_in os) → AreParts table (field_joinings fs os)
 field-parts table [] os h i = tt
 field-parts table (f ∷ fs) os h i =
-    parts-append table (field_joinings fs os) (field_joining f.1 (lookup (is_at (string_cmp f.0)) os)) (field-parts table fs os h.1 i) (go (lookup (is_at (string_cmp f.0)) os) refl)
+    parts-append table (field_joinings fs os) (field_joining f.1 (lookup (is_at (name_cmp f.0)) os)) (field-parts table fs os h.1 i) (go (lookup (is_at (name_cmp f.0)) os) refl)
   where
-    go : (o : Option NodeField) → lookup (is_at (string_cmp f.0)) os ≡ o → AreParts table (field_joining f.1 o)
+    go : (o : Option NodeField) → lookup (is_at (name_cmp f.0)) os ≡ o → AreParts table (field_joining f.1 o)
     go None at = tt
-    go (Some other) at = (record { first = h.0; second = found-below (length table) (is_at (string_cmp f.0)) os other i at }, tt)
+    go (Some other) at = (record { first = h.0; second = found-below (length table) (is_at (name_cmp f.0)) os other i at }, tt)
 
 -- ---- the parts of lists
 
@@ -187,12 +187,12 @@ module _ (table : List Shape) (ps os : List ℕ) (rest further : ℕ) (found : L
 
 -- ---- the parts of objects
 
-fields_each : (table : List Shape) (fs os : List (String Global × NodeField)) (found : List Shape) → all_done (steps_of table (field_joinings fs os)) found ≡ found ++ field_joins (fields_at table fs) (fields_at table os)
+fields_each : (table : List Shape) (fs os : List (Name × NodeField)) (found : List Shape) → all_done (steps_of table (field_joinings fs os)) found ≡ found ++ field_joins (fields_at table fs) (fields_at table os)
 fields_each table [] os found = sym (append-nil found)
 fields_each table (f ∷ fs) os found =
-    ap (λ all. all_done all found) (map-append (step_of table) (field_joinings fs os) (field_joining f.1 (lookup (is_at (string_cmp f.0)) os)))
-    ∙ done_append (steps_of table (field_joinings fs os)) (steps_of table (field_joining f.1 (lookup (is_at (string_cmp f.0)) os))) found
-    ∙ go (lookup (is_at (string_cmp f.0)) os) (λ more. fields_each table fs os more)
+    ap (λ all. all_done all found) (map-append (step_of table) (field_joinings fs os) (field_joining f.1 (lookup (is_at (name_cmp f.0)) os)))
+    ∙ done_append (steps_of table (field_joinings fs os)) (steps_of table (field_joining f.1 (lookup (is_at (name_cmp f.0)) os))) found
+    ∙ go (lookup (is_at (name_cmp f.0)) os) (λ more. fields_each table fs os more)
     ∙ ap (λ o. found ++ with_field_join (shape_at table f.1.shape) o (field_joins (fields_at table fs) (fields_at table os))) (sym (mention_of_number table f.0 os))
   where
     go : (o : Option NodeField) → ((more : List Shape) → all_done (steps_of table (field_joinings fs os)) more ≡ more ++ field_joins (fields_at table fs) (fields_at table os)) → all_done (steps_of table (field_joinings fs os)) (all_done (steps_of table (field_joining f.1 o)) found) ≡ found ++ with_field_join (shape_at table f.1.shape) (option_map (λ (x : NodeField). (x.needed, shape_at table x.shape)) o) (field_joins (fields_at table fs) (fields_at table os))
@@ -201,12 +201,12 @@ fields_each table (f ∷ fs) os found =
         let s = join (shape_at table f.1.shape) (shape_at table other.shape) in
         each (found ++ s ∷ []) ∙ append_assoc found (s ∷ []) (field_joins (fields_at table fs) (fields_at table os))
 
-fields_each_work : (table : List Shape) (fs os : List (String Global × NodeField)) (found : List Shape) → work_left (steps_of table (field_joinings fs os)) found ≡ fields_cost cost_of (fields_at table fs) (fields_at table os)
+fields_each_work : (table : List Shape) (fs os : List (Name × NodeField)) (found : List Shape) → work_left (steps_of table (field_joinings fs os)) found ≡ fields_cost cost_of (fields_at table fs) (fields_at table os)
 fields_each_work table [] os found = refl
 fields_each_work table (f ∷ fs) os found =
-    ap (λ all. work_left all found) (map-append (step_of table) (field_joinings fs os) (field_joining f.1 (lookup (is_at (string_cmp f.0)) os)))
-    ∙ work_append (steps_of table (field_joinings fs os)) (steps_of table (field_joining f.1 (lookup (is_at (string_cmp f.0)) os))) found
-    ∙ go (lookup (is_at (string_cmp f.0)) os) (λ more. fields_each_work table fs os more)
+    ap (λ all. work_left all found) (map-append (step_of table) (field_joinings fs os) (field_joining f.1 (lookup (is_at (name_cmp f.0)) os)))
+    ∙ work_append (steps_of table (field_joinings fs os)) (steps_of table (field_joining f.1 (lookup (is_at (name_cmp f.0)) os))) found
+    ∙ go (lookup (is_at (name_cmp f.0)) os) (λ more. fields_each_work table fs os more)
     ∙ ap (λ o. with_field_cost cost_of (shape_at table f.1.shape) o (fields_cost cost_of (fields_at table fs) (fields_at table os))) (sym (mention_of_number table f.0 os))
   where
     go : (o : Option NodeField) → ((more : List Shape) → work_left (steps_of table (field_joinings fs os)) more ≡ fields_cost cost_of (fields_at table fs) (fields_at table os)) → work_left (steps_of table (field_joinings fs os)) (all_done (steps_of table (field_joining f.1 o)) found) + work_left (steps_of table (field_joining f.1 o)) found ≡ with_field_cost cost_of (shape_at table f.1.shape) (option_map (λ (x : NodeField). (x.needed, shape_at table x.shape)) o) (fields_cost cost_of (fields_at table fs) (fields_at table os))

@@ -1,5 +1,5 @@
 -- The join of two shapes of a table, made of the joins of their parts.
-use Rattle.std.proofs.Common.{◌≡◌, ◌<◌, ◌≤◌, ℕ, min, List, length, map, take, drop, arith, [], ◌∷◌, ◌++◌, Bool, true, false, ◌&&◌, ◌||◌, Option, Some, None, Ordering, Less, Equal, Greater, String, Global, string_bytes, string_cmp, nat_cmp, bytes_eq, option_map, unwrap_or, is_some, Bor, Result, Ok, Err, append_assoc, refl, sym, ap, ◌∙◌, subst}
+use Rattle.std.proofs.Common.{◌≡◌, ◌<◌, ◌≤◌, ℕ, min, List, length, map, take, drop, arith, [], ◌∷◌, ◌++◌, Bool, true, false, ◌&&◌, ◌||◌, Option, Some, None, Ordering, Less, Equal, Greater, nat_cmp, bytes_eq, option_map, unwrap_or, is_some, Bor, Result, Ok, Err, append_assoc, refl, sym, ap, ◌∙◌, subst}
 use Rattle.std.proofs.Math.Seq.{drop-append_seam, take-append_seam}
 use Rattle.std.proofs.lemmas.Cmp.{nat_list_cmp_total}
 use Rattle.std.proofs.lemmas.Map.Text.{is_eq-slice_cmp}
@@ -18,7 +18,6 @@ use Rattle.asl_model.specs.Shape as model
 use Rattle.asl_model.specs.Shape.{Shape, Any, OfKinds, Arrays, WithoutArrays, ArraysOf, Objects, WithoutObjects, ObjectsOf, FieldShapes, NoFieldShapes, AndFieldShape, ArrayShape, ObjectShape, insert_mention}
 use Rattle.asl_model.specs.ShapeOrder.{mention_of, set_mention, without_mention, further_places, common_joins, joined_with_each, keep_joined, joined_fields, with_optional_unless, with_other_fields, either, join_arrays, join_objects, join_kinds, join}
 use Rattle.asl_model.proofs.JoinFuel.{join-inhabited}
-use Rattle.asl_tree.proofs.Texts.{after_first}
 use Rattle.asl_tree.specs.declared.OutOfMemory.{OutOfMemory}
 use Rattle.asl_shape.proofs.Lookups.{same_name}
 use Rattle.asl_shape.proofs.Spellings.{put}
@@ -40,20 +39,23 @@ use Rattle.asl_numbered.proofs.Comparisons.{mentions_number, mention_of_number}
 use Rattle.asl_numbered.proofs.Expansions.{shape_over_stays}
 use Rattle.asl_numbered.proofs.Joins.{common_places}
 use Rattle.asl_numbered.specs.Laws.{below-behind, below-drop, below-take, below-wider, keeps_longer, kept_shape}
+use Rattle.asl_numbered.specs.Names.{Name, name_cmp}
+use Rattle.std.specs.Rc.{rc_str_bytes}
+use Rattle.asl_numbered.proofs.Appending.{after_first}
 
 -- a name, and what a node says of its field
 abbrev pub Entry : Type 0
-Entry = String Global × NodeField
+Entry = Name × NodeField
 
 -- ---- the names of fields, in order
 
 -- each name comes behind that one
 abbrev AllAbove : List ℕ → List Entry → Type 0
-AllAbove n es = AllByRecursion (λ (k : String Global). slice_cmp nat_cmp n (string_bytes k) ≡ Less) (keys_of es)
+AllAbove n es = AllByRecursion (λ (k : Name). slice_cmp nat_cmp n (rc_str_bytes k) ≡ Less) (keys_of es)
 
 above-trans : (n k : List ℕ) (es : List Entry) → slice_cmp nat_cmp n k ≡ Less → AllAbove k es → AllAbove n es
 above-trans n k [] less h = tt
-above-trans n k (e ∷ es) less h = (nat_list_cmp_total.trans n k (string_bytes e.0) less h.0, above-trans n k es less h.1)
+above-trans n k (e ∷ es) less h = (nat_list_cmp_total.trans n k (rc_str_bytes e.0) less h.0, above-trans n k es less h.1)
 
 not-equal : (n m : List ℕ) → is_eq (slice_cmp nat_cmp n m) ≡ false → bytes_eq m n ≡ false
 not-equal n m apart = same_name n m ∙ apart
@@ -66,43 +68,43 @@ equal-names n m e = (bytes_eq-Decides n m).0 (sym (is_eq-slice_cmp n m) ∙ ap i
 module _ (table : List Shape) where
   above-without : (n : List ℕ) (es : List Entry) → AllAbove n es → without_mention n (fields_at table es) ≡ fields_at table es
   above-without n [] h = refl
-  above-without n (e ∷ es) h = rw (not-equal n (string_bytes e.0) (ap is_eq h.0), above-without n es h.1) refl
+  above-without n (e ∷ es) h = rw (not-equal n (rc_str_bytes e.0) (ap is_eq h.0), above-without n es h.1) refl
 
   above-insert : (n : List ℕ) (needed : Bool) (s : Shape) (es : List Entry) → AllAbove n es → insert_mention n needed s (fields_at table es) ≡ AndFieldShape n needed s (fields_at table es)
   above-insert n needed s [] h = refl
   above-insert n needed s (e ∷ es) h = rw h.0 refl
 
   -- where the names are in order, putting a mention is setting it
-  put-is-set : (n : List ℕ) (needed : Bool) (s : Shape) (es : List Entry) → IsStrictlySortedBy string_cmp (keys_of es) → put n needed s (fields_at table es) ≡ set_mention n needed s (fields_at table es)
+  put-is-set : (n : List ℕ) (needed : Bool) (s : Shape) (es : List Entry) → IsStrictlySortedBy name_cmp (keys_of es) → put n needed s (fields_at table es) ≡ set_mention n needed s (fields_at table es)
   unfolding IsStrictlySortedBy
   put-is-set n needed s [] h = refl
-  put-is-set n needed s (e ∷ es) h = go (slice_cmp nat_cmp n (string_bytes e.0)) refl (put-is-set n needed s es h.1)
+  put-is-set n needed s (e ∷ es) h = go (slice_cmp nat_cmp n (rc_str_bytes e.0)) refl (put-is-set n needed s es h.1)
     where
-      go : (order : Ordering) → slice_cmp nat_cmp n (string_bytes e.0) ≡ order → put n needed s (fields_at table es) ≡ set_mention n needed s (fields_at table es) → put n needed s (fields_at table (e ∷ es)) ≡ set_mention n needed s (fields_at table (e ∷ es))
+      go : (order : Ordering) → slice_cmp nat_cmp n (rc_str_bytes e.0) ≡ order → put n needed s (fields_at table es) ≡ set_mention n needed s (fields_at table es) → put n needed s (fields_at table (e ∷ es)) ≡ set_mention n needed s (fields_at table (e ∷ es))
       go Less is below =
-          let all : AllAbove n (e ∷ es) = (is, above-trans n (string_bytes e.0) es is h.0) in
+          let all : AllAbove n (e ∷ es) = (is, above-trans n (rc_str_bytes e.0) es is h.0) in
           rw is (sym (ap (insert_mention n needed s) (above-without n (e ∷ es) all) ∙ above-insert n needed s (e ∷ es) all))
       go Equal is below =
-          let same : n ≡ string_bytes e.0 = equal-names n (string_bytes e.0) is in
+          let same : n ≡ rc_str_bytes e.0 = equal-names n (rc_str_bytes e.0) is in
           let all : AllAbove n es = subst (λ k. AllAbove k es) (sym same) h.0 in
-          rw (is, (bytes_eq-Decides (string_bytes e.0) n).1 (sym same)) (sym (ap (insert_mention n needed s) (above-without n es all) ∙ above-insert n needed s es all ∙ ap (λ k. AndFieldShape k needed s (fields_at table es)) same))
-      go Greater is below = rw (is, not-equal n (string_bytes e.0) (ap is_eq is), is) (ap (AndFieldShape (string_bytes e.0) e.1.needed (shape_at table e.1.shape)) below)
+          rw (is, (bytes_eq-Decides (rc_str_bytes e.0) n).1 (sym same)) (sym (ap (insert_mention n needed s) (above-without n es all) ∙ above-insert n needed s es all ∙ ap (λ k. AndFieldShape k needed s (fields_at table es)) same))
+      go Greater is below = rw (is, not-equal n (rc_str_bytes e.0) (ap is_eq is), is) (ap (AndFieldShape (rc_str_bytes e.0) e.1.needed (shape_at table e.1.shape)) below)
 
   shown-by : (o : Ordering) (a b c : List Entry) → fields_at table (match_ordering o a b c) ≡ match_ordering o (fields_at table a) (fields_at table b) (fields_at table c)
   shown-by Less a b c = refl
   shown-by Equal a b c = refl
   shown-by Greater a b c = refl
 
-  pub put-shown : (es : List Entry) (k : String Global) (f : NodeField) → fields_at table (insert_entry string_cmp es k f) ≡ put (string_bytes k) f.needed (shape_at table f.shape) (fields_at table es)
+  pub put-shown : (es : List Entry) (k : Name) (f : NodeField) → fields_at table (insert_entry name_cmp es k f) ≡ put (rc_str_bytes k) f.needed (shape_at table f.shape) (fields_at table es)
   put-shown [] k f = refl
-  put-shown (e ∷ es) k f = shown-by (string_cmp k e.0) _ _ _ ∙ rw (put-shown es k f)
+  put-shown (e ∷ es) k f = shown-by (name_cmp k e.0) _ _ _ ∙ rw (put-shown es k f)
 
 -- the numbers of fields with one more
-pub put-below : (bound : ℕ) (es : List Entry) (k : String Global) (f : NodeField) → f.shape < bound → AreBelow bound (numbers_in es) → AreBelow bound (numbers_in (insert_entry string_cmp es k f))
+pub put-below : (bound : ℕ) (es : List Entry) (k : Name) (f : NodeField) → f.shape < bound → AreBelow bound (numbers_in es) → AreBelow bound (numbers_in (insert_entry name_cmp es k f))
 put-below bound [] k f h below = (h, tt)
-put-below bound (e ∷ es) k f h below = go (string_cmp k e.0) (put-below bound es k f h below.1)
+put-below bound (e ∷ es) k f h below = go (name_cmp k e.0) (put-below bound es k f h below.1)
   where
-    go : (o : Ordering) → AreBelow bound (numbers_in (insert_entry string_cmp es k f)) → AreBelow bound (numbers_in (match_ordering o ((k, f) ∷ e ∷ es) ((e.0, f) ∷ es) (e ∷ insert_entry string_cmp es k f)))
+    go : (o : Ordering) → AreBelow bound (numbers_in (insert_entry name_cmp es k f)) → AreBelow bound (numbers_in (match_ordering o ((k, f) ∷ e ∷ es) ((e.0, f) ∷ es) (e ∷ insert_entry name_cmp es k f)))
     go Less behind = (h, below)
     go Equal behind = (h, below.1)
     go Greater behind = (below.0, behind)
@@ -113,15 +115,15 @@ module _ (table : List Shape) (os : FieldShapes) (more : Bool) where
   -- the joined fields of the first object, in front of others
   abbrev joined-front : List Entry → FieldShapes → FieldShapes
   joined-front [] behind = behind
-  joined-front (e ∷ es) behind = keep_joined join (string_bytes e.0) e.1.needed (shape_at table e.1.shape) more (mention_of (string_bytes e.0) os) (joined-front es behind)
+  joined-front (e ∷ es) behind = keep_joined join (rc_str_bytes e.0) e.1.needed (shape_at table e.1.shape) more (mention_of (rc_str_bytes e.0) os) (joined-front es behind)
 
   front-all : (done es : List Entry) → joined_fields join (fields_at table (done ++ es)) os more ≡ joined-front done (joined_fields join (fields_at table es) os more)
   front-all [] es = refl
-  front-all (e ∷ done) es = ap (keep_joined join (string_bytes e.0) e.1.needed (shape_at table e.1.shape) more (mention_of (string_bytes e.0) os)) (front-all done es)
+  front-all (e ∷ done) es = ap (keep_joined join (rc_str_bytes e.0) e.1.needed (shape_at table e.1.shape) more (mention_of (rc_str_bytes e.0) os)) (front-all done es)
 
   front-alone : (done : List Entry) → joined_fields join (fields_at table done) os more ≡ joined-front done NoFieldShapes
   front-alone [] = refl
-  front-alone (e ∷ done) = ap (keep_joined join (string_bytes e.0) e.1.needed (shape_at table e.1.shape) more (mention_of (string_bytes e.0) os)) (front-alone done)
+  front-alone (e ∷ done) = ap (keep_joined join (rc_str_bytes e.0) e.1.needed (shape_at table e.1.shape) more (mention_of (rc_str_bytes e.0) os)) (front-alone done)
 
   -- a name that is above another goes behind its field, where that is kept
   put-behind : (n m : List ℕ) (needed own : Bool) (s r : Shape) (open_ : Bool) (mention : Option (Bool × Shape)) (kept behind : FieldShapes) → slice_cmp nat_cmp n m ≡ Greater → put n needed s kept ≡ behind → put n needed s (keep_joined join m own r open_ mention kept) ≡ keep_joined join m own r open_ mention behind
@@ -129,14 +131,14 @@ module _ (table : List Shape) (os : FieldShapes) (more : Bool) where
   put-behind n m needed own s r false None kept behind above is = rw above (ap (AndFieldShape m false r) is)
   put-behind n m needed own s r open_ (Some o) kept behind above is = rw above (ap (AndFieldShape m (own && o.0) (join r o.1)) is)
 
-  put-last : (done : List Entry) (e : Entry) (left : List Entry) (needed : Bool) (s : Shape) → IsStrictlySortedBy string_cmp (keys_of (done ++ e ∷ left)) → put (string_bytes e.0) needed s (joined-front done NoFieldShapes) ≡ joined-front done (AndFieldShape (string_bytes e.0) needed s NoFieldShapes)
+  put-last : (done : List Entry) (e : Entry) (left : List Entry) (needed : Bool) (s : Shape) → IsStrictlySortedBy name_cmp (keys_of (done ++ e ∷ left)) → put (rc_str_bytes e.0) needed s (joined-front done NoFieldShapes) ≡ joined-front done (AndFieldShape (rc_str_bytes e.0) needed s NoFieldShapes)
   unfolding IsStrictlySortedBy
   put-last [] e left needed s h = refl
   put-last (first ∷ done) e left needed s h =
-      put-behind (string_bytes e.0) (string_bytes first.0) needed first.1.needed s (shape_at table first.1.shape) more (mention_of (string_bytes first.0) os) _ _ (after_first first done e left h.0) (put-last done e left needed s h.1)
+      put-behind (rc_str_bytes e.0) (rc_str_bytes first.0) needed first.1.needed s (shape_at table first.1.shape) more (mention_of (rc_str_bytes first.0) os) _ _ (after_first first done e left h.0) (put-last done e left needed s h.1)
 
   -- a field that is kept goes behind those before it
-  kept-last : (done : List Entry) (e : Entry) (left joined : List Entry) (k : String Global) (f : NodeField) → IsStrictlySortedBy string_cmp (keys_of (done ++ e ∷ left)) → fields_at table joined ≡ joined_fields join (fields_at table done) os more → string_bytes k ≡ string_bytes e.0 → AndFieldShape (string_bytes e.0) f.needed (shape_at table f.shape) NoFieldShapes ≡ joined_fields join (fields_at table (e ∷ [])) os more → fields_at table (insert_entry string_cmp joined k f) ≡ joined_fields join (fields_at table (done ++ e ∷ [])) os more
+  kept-last : (done : List Entry) (e : Entry) (left joined : List Entry) (k : Name) (f : NodeField) → IsStrictlySortedBy name_cmp (keys_of (done ++ e ∷ left)) → fields_at table joined ≡ joined_fields join (fields_at table done) os more → rc_str_bytes k ≡ rc_str_bytes e.0 → AndFieldShape (rc_str_bytes e.0) f.needed (shape_at table f.shape) NoFieldShapes ≡ joined_fields join (fields_at table (e ∷ [])) os more → fields_at table (insert_entry name_cmp joined k f) ≡ joined_fields join (fields_at table (done ++ e ∷ [])) os more
   kept-last done e left joined k f sorted so_far named is =
       put-shown table joined k f
       ∙ rw (named, so_far, front-alone done) (put-last done e left f.needed (shape_at table f.shape) sorted)
@@ -168,7 +170,7 @@ all_joined fields others more parts left behind joined none h =
     record { shapes = λ table are. h.shapes table are ∙ ap (λ es. joined_fields join (fields_at table es) (fields_at table others) more) (sym whole); below = λ bound own below. (h.below bound own below).1 }
 
 -- the mention of a name in the second object
-mention-there : (table : List Shape) (k : String Global) (others : List Entry) (o : Option NodeField) → lookup (is_at (string_cmp k)) others ≡ o → mention_of (string_bytes k) (fields_at table others) ≡ option_map (λ f. (f.needed, shape_at table f.shape)) o
+mention-there : (table : List Shape) (k : Name) (others : List Entry) (o : Option NodeField) → lookup (is_at (name_cmp k)) others ≡ o → mention_of (rc_str_bytes k) (fields_at table others) ≡ option_map (λ f. (f.needed, shape_at table f.shape)) o
 mention-there table k others o found = mention_of_number table k others ∙ ap (option_map (λ (f : NodeField). (f.needed, shape_at table f.shape))) found
 
 -- the first of the parts; the field's own number where there is none
@@ -199,21 +201,21 @@ module _ (fields others : List Entry) (more : Bool) (parts : List ℕ) (now left
   further : fields ≡ (done ++ e ∷ []) ++ left
   further = all ∙ sym (append_assoc done (e ∷ []) left)
 
-  sorted : IsStrictlySortedBy string_cmp (keys_of fields) → IsStrictlySortedBy string_cmp (keys_of (done ++ e ∷ left))
-  sorted ordered = subst (λ es. IsStrictlySortedBy string_cmp (keys_of es)) all ordered
+  sorted : IsStrictlySortedBy name_cmp (keys_of fields) → IsStrictlySortedBy name_cmp (keys_of (done ++ e ∷ left))
+  sorted ordered = subst (λ es. IsStrictlySortedBy name_cmp (keys_of es)) all ordered
 
   own-below : (bound : ℕ) → AreBelow bound (numbers_in fields) → e.1.shape < bound
   own-below bound own = (below-behind bound (numbers_in done) (numbers_in (e ∷ left)) (subst (AreBelow bound) (map-append (λ f. f.1.shape) done (e ∷ left)) (subst (λ es. AreBelow bound (numbers_in es)) all own))).0
 
   -- what is left of the parts, by whether the second object mentions the field
-  parts-left : (table : List Shape) (o : Option NodeField) → lookup (is_at (string_cmp e.0)) others ≡ o → AreFieldJoins table fields others parts → found_in table behind ≡ with_field_join (shape_at table e.1.shape) (option_map (λ f. (f.needed, shape_at table f.shape)) o) (field_joins (fields_at table left) (fields_at table others))
+  parts-left : (table : List Shape) (o : Option NodeField) → lookup (is_at (name_cmp e.0)) others ≡ o → AreFieldJoins table fields others parts → found_in table behind ≡ with_field_join (shape_at table e.1.shape) (option_map (λ f. (f.needed, shape_at table f.shape)) o) (field_joins (fields_at table left) (fields_at table others))
   parts-left table o found are =
       h.rest table are
       ∙ ap (λ es. field_joins (fields_at table es) (fields_at table others)) split
       ∙ ap (λ m. with_field_join (shape_at table e.1.shape) m (field_joins (fields_at table left) (fields_at table others))) (mention-there table e.0 others o found)
 
   -- one that both mention: the next part is the number of its join
-  pub both_joined : (o f : NodeField) (k : String Global) (new : List Entry) (next : List ℕ) → IsStrictlySortedBy string_cmp (keys_of fields) → lookup (is_at (string_cmp e.0)) others ≡ Some o → string_bytes k ≡ string_bytes e.0 → f.needed ≡ (e.1.needed && o.needed) → IsNextPart behind next e.1.shape f.shape → new ≡ insert_entry string_cmp joined k f → AreJoinedSoFar fields others more parts left next new
+  pub both_joined : (o f : NodeField) (k : Name) (new : List Entry) (next : List ℕ) → IsStrictlySortedBy name_cmp (keys_of fields) → lookup (is_at (name_cmp e.0)) others ≡ Some o → rc_str_bytes k ≡ rc_str_bytes e.0 → f.needed ≡ (e.1.needed && o.needed) → IsNextPart behind next e.1.shape f.shape → new ≡ insert_entry name_cmp joined k f → AreJoinedSoFar fields others more parts left next new
   both_joined o f k new next ordered found named needed part inserted = rw inserted (record {
     done = done ++ e ∷ [];
     whole = further;
@@ -229,7 +231,7 @@ module _ (fields others : List Entry) (more : Bool) (parts : List ℕ) (now left
       parts_next table are = part-shown table behind next e.1.shape f.shape part _ _ (parts-left table (Some o) found are)
 
   -- one that the first alone mentions, where the second has no other fields
-  pub one_joined : (f : NodeField) (k : String Global) (new : List Entry) → IsStrictlySortedBy string_cmp (keys_of fields) → lookup (is_at (string_cmp e.0)) others ≡ None → string_bytes k ≡ string_bytes e.0 → more ≡ false → f.needed ≡ false → f.shape ≡ e.1.shape → new ≡ insert_entry string_cmp joined k f → AreJoinedSoFar fields others more parts left behind new
+  pub one_joined : (f : NodeField) (k : Name) (new : List Entry) → IsStrictlySortedBy name_cmp (keys_of fields) → lookup (is_at (name_cmp e.0)) others ≡ None → rc_str_bytes k ≡ rc_str_bytes e.0 → more ≡ false → f.needed ≡ false → f.shape ≡ e.1.shape → new ≡ insert_entry name_cmp joined k f → AreJoinedSoFar fields others more parts left behind new
   one_joined f k new ordered none named closed optional shape inserted = rw inserted (record {
     done = done ++ e ∷ [];
     whole = further;
@@ -239,7 +241,7 @@ module _ (fields others : List Entry) (more : Bool) (parts : List ℕ) (now left
   })
 
   -- one that is dropped
-  pub one_dropped : lookup (is_at (string_cmp e.0)) others ≡ None → more ≡ true → AreJoinedSoFar fields others more parts left behind joined
+  pub one_dropped : lookup (is_at (name_cmp e.0)) others ≡ None → more ≡ true → AreJoinedSoFar fields others more parts left behind joined
   one_dropped none open_ = record {
     done = done ++ e ∷ [];
     whole = further;
@@ -267,22 +269,22 @@ module _ (fields : List Entry) (extra : Bool) (others now left : List Entry) (e 
   before = h.whole ∙ ap (λ es. es ++ h.done) split ∙ append_assoc left (e ∷ []) h.done
 
   -- one field more, where it is known whether it is dropped
-  next : (table : List Shape) (dropped : Bool) → (extra || is_some (lookup (is_at (string_cmp e.0)) fields)) ≡ dropped → with_other_fields (fields_at table fields) extra (fields_at table (e ∷ h.done)) (fields_at table old) ≡ with_optional_unless dropped (string_bytes e.0) (shape_at table e.1.shape) (fields_at table joined)
+  next : (table : List Shape) (dropped : Bool) → (extra || is_some (lookup (is_at (name_cmp e.0)) fields)) ≡ dropped → with_other_fields (fields_at table fields) extra (fields_at table (e ∷ h.done)) (fields_at table old) ≡ with_optional_unless dropped (rc_str_bytes e.0) (shape_at table e.1.shape) (fields_at table joined)
   next table dropped is =
-      ap (λ b. with_optional_unless b (string_bytes e.0) (shape_at table e.1.shape) (with_other_fields (fields_at table fields) extra (fields_at table h.done) (fields_at table old))) (ap (λ b. extra || b) (mentions_number table e.0 fields) ∙ is)
-      ∙ ap (with_optional_unless dropped (string_bytes e.0) (shape_at table e.1.shape)) (sym (h.shapes table))
+      ap (λ b. with_optional_unless b (rc_str_bytes e.0) (shape_at table e.1.shape) (with_other_fields (fields_at table fields) extra (fields_at table h.done) (fields_at table old))) (ap (λ b. extra || b) (mentions_number table e.0 fields) ∙ is)
+      ∙ ap (with_optional_unless dropped (rc_str_bytes e.0) (shape_at table e.1.shape)) (sym (h.shapes table))
 
   other-below : (bound : ℕ) → AreBelow bound (numbers_in others) → e.1.shape < bound
   other-below bound own = (below-behind bound (numbers_in left) (numbers_in (e ∷ h.done)) (subst (AreBelow bound) (map-append (λ f. f.1.shape) left (e ∷ h.done)) (subst (λ es. AreBelow bound (numbers_in es)) before own))).0
 
-  pub other_dropped : (extra || is_some (lookup (is_at (string_cmp e.0)) fields)) ≡ true → AreAddedSoFar fields extra others left old joined
+  pub other_dropped : (extra || is_some (lookup (is_at (name_cmp e.0)) fields)) ≡ true → AreAddedSoFar fields extra others left old joined
   other_dropped there = record { done = e ∷ h.done; whole = before; shapes = λ table. sym (next table true there); below = h.below }
 
-  pub other_added : (k : String Global) (f : NodeField) (new : List Entry) → extra ≡ false → is_some (lookup (is_at (string_cmp e.0)) fields) ≡ false → string_bytes k ≡ string_bytes e.0 → f.needed ≡ false → f.shape ≡ e.1.shape → IsStrictlySortedBy string_cmp (keys_of joined) → new ≡ insert_entry string_cmp joined k f → AreAddedSoFar fields extra others left old new
+  pub other_added : (k : Name) (f : NodeField) (new : List Entry) → extra ≡ false → is_some (lookup (is_at (name_cmp e.0)) fields) ≡ false → rc_str_bytes k ≡ rc_str_bytes e.0 → f.needed ≡ false → f.shape ≡ e.1.shape → IsStrictlySortedBy name_cmp (keys_of joined) → new ≡ insert_entry name_cmp joined k f → AreAddedSoFar fields extra others left old new
   other_added k f new closed absent named optional shape ordered inserted = rw inserted (record {
     done = e ∷ h.done;
     whole = before;
-    shapes = λ table. put-shown table joined k f ∙ rw (named, optional, shape) (put-is-set table (string_bytes e.0) false (shape_at table e.1.shape) joined ordered) ∙ sym (next table false (rw (closed, absent) refl));
+    shapes = λ table. put-shown table joined k f ∙ rw (named, optional, shape) (put-is-set table (rc_str_bytes e.0) false (shape_at table e.1.shape) joined ordered) ∙ sym (next table false (rw (closed, absent) refl));
     below = λ bound more below. put-below bound joined k f (rw shape (other-below bound more)) (h.below bound more below);
   })
 
@@ -335,7 +337,7 @@ places_counted table (p ∷ ps) (o ∷ os) = omega (arith, places_counted table 
 
 -- ---- the objects of a join
 
-pub objects_joined : (objects others : NodeObjects) (numbers : List ℕ) (joined : List Entry) (new : BTreeMap (String Global) NodeField) (any : Bool) → AreJoinedFields objects.fields.now.entries others.fields.now.entries others.extra numbers joined → AreWithOthers objects.fields.now.entries objects.extra others.fields.now.entries joined new.entries → any ≡ (objects.extra || others.extra) → IsObjectJoin (Some objects) (Some others) numbers (Some (Level (nodes.Object new any)))
+pub objects_joined : (objects others : NodeObjects) (numbers : List ℕ) (joined : List Entry) (new : BTreeMap Name NodeField) (any : Bool) → AreJoinedFields objects.fields.now.entries others.fields.now.entries others.extra numbers joined → AreWithOthers objects.fields.now.entries objects.extra others.fields.now.entries joined new.entries → any ≡ (objects.extra || others.extra) → IsObjectJoin (Some objects) (Some others) numbers (Some (Level (nodes.Object new any)))
 objects_joined objects others numbers joined new any joins adds is = record {
   joined = λ table own other below are. (
     record { within = (record { each = adds.below (length table) other.parts (joins.below (length table) own.parts below) }, record { proper = tt }) },

@@ -1,5 +1,5 @@
 -- The shapes of a table are proper.
-use Rattle.std.proofs.Common.{◌≡◌, ℕ, zero, suc, List, [], ◌∷◌, ◌++◌, map, String, Global, Some, slice_get, refl}
+use Rattle.std.proofs.Common.{◌≡◌, ℕ, zero, suc, List, [], ◌∷◌, ◌++◌, map, Some, slice_get, refl}
 use Rattle.std.specs.List.Sorted.{IsStrictlySortedBy}
 use Rattle.std.specs.Map.{keys_of}
 use Rattle.std.proofs.lemmas.Str.{IsUtf8-string_bytes}
@@ -11,6 +11,7 @@ use Rattle.asl_numbered.specs.declared.node.NodeField.{NodeField}
 use Rattle.asl_numbered.specs.declared.table.Facts.{Facts}
 use Rattle.asl_numbered.specs.Expansion.{shape_at, shapes_at, fields_at, shape_over, expansions_after}
 use Rattle.asl_numbered.specs.Table.{AreFieldsInOrder, HasFieldsInOrder, IsTable, shapes_in}
+use Rattle.asl_numbered.specs.Names.{Name}
 
 -- the shapes of all numbers are proper
 abbrev AreProper : List model.Shape → Type 0
@@ -20,11 +21,11 @@ proper_places : (table : List model.Shape) (ns : List ℕ) → AreProper table �
 proper_places table [] h = tt
 proper_places table (n ∷ ns) h = (h n, proper_places table ns h)
 
-proper_fields : (table : List model.Shape) (fs : List (String Global × NodeField)) → AreProper table → AreFieldsInOrder fs → model.AreProperFields (fields_at table fs)
+proper_fields : (table : List model.Shape) (fs : List (Name × NodeField)) → AreProper table → AreFieldsInOrder fs → model.AreProperFields (fields_at table fs)
 unfolding IsStrictlySortedBy
 proper_fields table [] h order = tt
-proper_fields table (f ∷ []) h order = (IsUtf8-string_bytes f.0, refl, h f.1.shape, tt)
-proper_fields table (f ∷ (g ∷ fs)) h order = (IsUtf8-string_bytes f.0, (rw order.0.0 refl), h f.1.shape, proper_fields table (g ∷ fs) h order.1)
+proper_fields table (f ∷ []) h order = (IsUtf8-string_bytes f.0.text.value, refl, h f.1.shape, tt)
+proper_fields table (f ∷ (g ∷ fs)) h order = (IsUtf8-string_bytes f.0.text.value, (rw order.0.0 refl), h f.1.shape, proper_fields table (g ∷ fs) h order.1)
 
 proper_with : (s t : model.Shape) → model.IsProperShape s → model.IsProperShape t → model.IsProperShape (with_kinds s t)
 proper_with model.Any t h i = tt

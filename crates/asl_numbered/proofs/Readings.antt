@@ -33,11 +33,13 @@ use Rattle.asl_numbered.specs.Reading.{AreGiven, IsRead, IsReadOver, AreArraysRe
 use Rattle.asl_numbered.specs.Refusal.{numbered}
 use Rattle.asl_model.specs.References.{reference_among, meant_by}
 use Rattle.asl_numbered.specs.References.{reference_in, referred, numbers_given, shapes_given, SpellsWith, by_reference, by_level, SpellsOver, with_none_inside, with_kinds, SpellsArrays, without_arrays, with_elements, SpellsObjects, without_objects, with_properties, SpellEach, no_element, and_element, SpellsRest, no_rest, some_rest, SpellFields, no_field, and_field, inside, each_of, values_of, is_itself, stands_inside, TellsOf}
-use Rattle.asl_numbered.proofs.Appending.{names, appended}
+use Rattle.asl_numbered.proofs.Appending.{names, shared_names, appended_by}
 use Rattle.asl_numbered.specs.TakenApart.{arrays_of, objects_of, kinds_at}
 use Rattle.asl_numbered.specs.declared.kinds.KindNumbers.{KindNumbers}
 use Rattle.asl_numbered.proofs.Growing.{numbers_kept, fields_kept, numbers_push}
 use Rattle.asl_numbered.specs.Laws.{below-append, below-wider, keeps_longer, kept_shape, kept_shapes}
+use Rattle.asl_numbered.specs.Names.{Name, name_cmp}
+use Rattle.std.specs.Rc.{rc_str_bytes}
 
 -- ---- numbers that are given
 
@@ -292,34 +294,34 @@ unfolding push_field
 entries_pushed [] e = refl
 entries_pushed (m ∷ es) e = ap (AndField (string_bytes m.0) (trees.view m.1)) (entries_pushed es e)
 
-mentions_pushed : (table : List model.Shape) (es : List (String Global × NodeField)) (k : String Global) (f : NodeField) → fields_at table (es ++ (k, f) ∷ []) ≡ push_mention (fields_at table es) (string_bytes k) f.needed (shape_at table f.shape)
+mentions_pushed : (table : List model.Shape) (es : List (Name × NodeField)) (k : Name) (f : NodeField) → fields_at table (es ++ (k, f) ∷ []) ≡ push_mention (fields_at table es) (rc_str_bytes k) f.needed (shape_at table f.shape)
 unfolding push_mention
 mentions_pushed table [] k f = refl
-mentions_pushed table (e ∷ es) k f = ap (model.AndFieldShape (string_bytes e.0) e.1.needed (shape_at table e.1.shape)) (mentions_pushed table es k f)
+mentions_pushed table (e ∷ es) k f = ap (model.AndFieldShape (rc_str_bytes e.0) e.1.needed (shape_at table e.1.shape)) (mentions_pushed table es k f)
 
 pub no_fields_read : (several : Bool) (given : Option (List model.Shape)) (table : List model.Shape) → AreFieldsRead several given NoFields table []
 no_fields_read several given table = record { within = tt; spelled = no_field }
 
-fields_grown : (several : Bool) (given : Option (List model.Shape)) (fs : Fields) (old new : List model.Shape) (es : List (String Global × NodeField)) → Keeps old new → AreFieldsRead several given fs old es → AreFieldsRead several given fs new es
+fields_grown : (several : Bool) (given : Option (List model.Shape)) (fs : Fields) (old new : List model.Shape) (es : List (Name × NodeField)) → Keeps old new → AreFieldsRead several given fs old es → AreFieldsRead several given fs new es
 fields_grown several given fs old new es keeps are =
     let kept : AreFieldsOf new (fields_at old es) es = fields_kept old new (fields_at old es) es keeps (record { within = are.within; same = refl }) in
     record { within = kept.within; spelled = subst (SpellFields several given fs) (sym kept.same) are.spelled }
 
-pub field_read : (several : Bool) (given : Option (List model.Shape)) (old new : List model.Shape) (done left : List (String Global × CodeTree)) (e : String Global × CodeTree) (es fs : List (String Global × NodeField)) (k : String Global) (f : NodeField) → IsStrictlySortedBy string_cmp (keys_of (done ++ e ∷ left)) → Keeps old new → names es ≡ names done → AreFieldsRead several given (trees.entries_view done) old es → string_bytes k ≡ string_bytes e.0 → f.needed ≡ false → IsRead several given (trees.view e.1) new f.shape → fs ≡ insert_entry string_cmp es k f → (names fs ≡ names (done ++ e ∷ [])) × AreFieldsRead several given (trees.entries_view (done ++ e ∷ [])) new fs
+pub field_read : (several : Bool) (given : Option (List model.Shape)) (old new : List model.Shape) (done left : List (String Global × CodeTree)) (e : String Global × CodeTree) (es fs : List (Name × NodeField)) (k : Name) (f : NodeField) → IsStrictlySortedBy string_cmp (keys_of (done ++ e ∷ left)) → Keeps old new → shared_names es ≡ names done → AreFieldsRead several given (trees.entries_view done) old es → rc_str_bytes k ≡ string_bytes e.0 → f.needed ≡ false → IsRead several given (trees.view e.1) new f.shape → fs ≡ insert_entry name_cmp es k f → (shared_names fs ≡ names (done ++ e ∷ [])) × AreFieldsRead several given (trees.entries_view (done ++ e ∷ [])) new fs
 field_read several given old new done left e es fs k f sorted keeps same are named needed read inserted =
     let now = fields_grown several given (trees.entries_view done) old new es keeps are in
-    let last : fs ≡ es ++ (k, f) ∷ [] = inserted ∙ appended done e left es k f sorted same named in (
-      ap names last ∙ map-append (λ x. string_bytes x.0) es ((k, f) ∷ []) ∙ ap (λ ns. ns ++ string_bytes k ∷ []) same ∙ ap (λ n. names done ++ n ∷ []) named ∙ sym (map-append (λ x. string_bytes x.0) done (e ∷ [])),
+    let last : fs ≡ es ++ (k, f) ∷ [] = inserted ∙ appended_by string_bytes rc_str_bytes done e left es k f sorted same named in (
+      ap shared_names last ∙ map-append (λ x. rc_str_bytes x.0) es ((k, f) ∷ []) ∙ ap (λ ns. ns ++ rc_str_bytes k ∷ []) same ∙ ap (λ n. names done ++ n ∷ []) named ∙ sym (map-append (λ x. string_bytes x.0) done (e ∷ [])),
       rw last (record {
         within = numbers_push (length new) es k f now.within read.within;
         spelled = rw (entries_pushed done e, mentions_pushed new es k f, named, needed) (fields_push (string_bytes e.0) now.spelled read.spelled);
       }),
     )
 
-pub object_refers : (shapes : model.FieldShapes) (now : List model.Shape) (fields : BTreeMap (String Global) NodeField) (extra : Bool) → AreFieldsOf now shapes fields.entries → RefersBelow (length now) (Object fields extra)
+pub object_refers : (shapes : model.FieldShapes) (now : List model.Shape) (fields : BTreeMap Name NodeField) (extra : Bool) → AreFieldsOf now shapes fields.entries → RefersBelow (length now) (Object fields extra)
 object_refers shapes now fields extra are = record { each = are.within }
 
-pub object_read : (several : Bool) (given : Option (List model.Shape)) (object : ObjectLevel) (middle now new : List model.Shape) (fields : List (String Global × NodeField)) (marked : BTreeMap (String Global) NodeField) (n : ℕ) → AreFieldsRead several given object.properties middle fields → AreFieldsOf now (with_all_needed object.extra object.names (fields_at middle fields)) marked.entries → IsNumberOf new (shape_over now (Object marked object.extra)) n → AreObjectsRead several given (Some object) new (Some n)
+pub object_read : (several : Bool) (given : Option (List model.Shape)) (object : ObjectLevel) (middle now new : List model.Shape) (fields : List (Name × NodeField)) (marked : BTreeMap Name NodeField) (n : ℕ) → AreFieldsRead several given object.properties middle fields → AreFieldsOf now (with_all_needed object.extra object.names (fields_at middle fields)) marked.entries → IsNumberOf new (shape_over now (Object marked object.extra)) n → AreObjectsRead several given (Some object) new (Some n)
 object_read several given object middle now new fields marked n are marks is =
     let whole = ap (λ ms. model.ObjectsOf ms object.extra) (sym marks.same) ∙ sym (ap objects_of is.same) in
     record { within = is.within; spelled = subst (SpellsObjects several given (Some object)) whole (with_properties are.spelled) }

@@ -1,5 +1,5 @@
 -- When two nodes are equal: where the shapes that they stand for are, over a table in which no shape stands twice.
-use Rattle.std.proofs.Common.{◌≡◌, ℕ, List, [], ◌∷◌, length, map, ◌≤◌, Bool, true, ◌&&◌, Vec, String, Global, string_bytes, bytes_eq, refl, sym, ap, ◌∙◌, arith}
+use Rattle.std.proofs.Common.{◌≡◌, ℕ, List, [], ◌∷◌, length, map, ◌≤◌, Bool, true, ◌&&◌, Vec, Global, bytes_eq, refl, sym, ap, ◌∙◌, arith}
 use Rattle.std.proofs.lemmas.Bool.{and_parts, and_from, eqb-true, eq-eqb}
 use Rattle.std.proofs.lemmas.Slice.Eq.{bytes_eq-Decides}
 use Rattle.std.specs.Cmp.{booleans_Decides}
@@ -15,25 +15,27 @@ use Rattle.asl_numbered.specs.Expansion.{shape_at, shapes_at, fields_at, shape_o
 use Rattle.asl_numbered.specs.Kinds.{HasProperParts}
 use Rattle.asl_numbered.specs.TakenApart.{parts_of}
 use Rattle.asl_numbered.proofs.Ascending.{parts_merged}
+use Rattle.asl_numbered.specs.Names.{Name}
+use Rattle.std.specs.Rc.{rc_str_bytes}
 
 -- the test of two nodes
 abbrev pub equal : Node → Node → Bool
 equal = node_eq.ghosts.eq
 
 -- the test of two maps' fields
-abbrev equal_fields : List (String Global × NodeField) → List (String Global × NodeField) → Bool
-equal_fields = pointwise (λ f g. bytes_eq (string_bytes f.0) (string_bytes g.0) && field_eq.ghosts.eq f.1 g.1)
+abbrev equal_fields : List (Name × NodeField) → List (Name × NodeField) → Bool
+equal_fields = pointwise (λ f g. bytes_eq (rc_str_bytes f.0) (rc_str_bytes g.0) && field_eq.ghosts.eq f.1 g.1)
 
 -- ---- equal nodes stand for one shape
 
-fields-same : (table : List model.Shape) (fs gs : List (String Global × NodeField)) → equal_fields fs gs ≡ true → fields_at table fs ≡ fields_at table gs
+fields-same : (table : List model.Shape) (fs gs : List (Name × NodeField)) → equal_fields fs gs ≡ true → fields_at table fs ≡ fields_at table gs
 fields-same table [] [] e = refl
 fields-same table [] (g ∷ gs) e = absurd (cc)
 fields-same table (f ∷ fs) [] e = absurd (cc)
 fields-same table (f ∷ fs) (g ∷ gs) e =
     let both = and_parts _ _ e in
     let here = and_parts _ _ both.0 in
-    let name : string_bytes f.0 ≡ string_bytes g.0 = (bytes_eq-Decides (string_bytes f.0) (string_bytes g.0)).0 here.0 in
+    let name : rc_str_bytes f.0 ≡ rc_str_bytes g.0 = (bytes_eq-Decides (rc_str_bytes f.0) (rc_str_bytes g.0)).0 here.0 in
     let field = and_parts _ _ here.1 in
     let needed : f.1.needed ≡ g.1.needed = (booleans_Decides f.1.needed g.1.needed).0 field.0 in
     let number : f.1.shape ≡ g.1.shape = eqb-true f.1.shape g.1.shape field.1 in
@@ -80,17 +82,17 @@ module _ (table : List model.Shape) (distinct : AreDistinct table) where
       let number = distinct.apart n m h.0 i.0 shape in
       rw (number, numbers-alike ns ms h.1 i.1 shapes) refl
 
-  fields-alike : (fs gs : List (String Global × NodeField)) → AreBelow (length table) (numbers_in fs) → AreBelow (length table) (numbers_in gs) → fields_at table fs ≡ fields_at table gs → equal_fields fs gs ≡ true
+  fields-alike : (fs gs : List (Name × NodeField)) → AreBelow (length table) (numbers_in fs) → AreBelow (length table) (numbers_in gs) → fields_at table fs ≡ fields_at table gs → equal_fields fs gs ≡ true
   fields-alike [] [] h i e = refl
   fields-alike [] (g ∷ gs) h i e = absurd (cc)
   fields-alike (f ∷ fs) [] h i e = absurd (cc)
   fields-alike (f ∷ fs) (g ∷ gs) h i e =
-      let name : string_bytes f.0 ≡ string_bytes g.0 = cc in
+      let name : rc_str_bytes f.0 ≡ rc_str_bytes g.0 = cc in
       let needed : f.1.needed ≡ g.1.needed = cc in
       let shape : shape_at table f.1.shape ≡ shape_at table g.1.shape = cc in
       let behind : fields_at table fs ≡ fields_at table gs = cc in
       let field = and_from _ _ ((booleans_Decides f.1.needed g.1.needed).1 needed) (eq-eqb f.1.shape g.1.shape (distinct.apart f.1.shape g.1.shape h.0 i.0 shape)) in
-      and_from _ _ (and_from _ _ ((bytes_eq-Decides (string_bytes f.0) (string_bytes g.0)).1 name) field) (fields-alike fs gs h.1 i.1 behind)
+      and_from _ _ (and_from _ _ ((bytes_eq-Decides (rc_str_bytes f.0) (rc_str_bytes g.0)).1 name) field) (fields-alike fs gs h.1 i.1 behind)
 
   list-alike : (ns ms : List ℕ) → AreBelow (length table) ns → AreBelow (length table) ms → map (shape_at table) ns ≡ map (shape_at table) ms → ns ≡ ms
   list-alike [] [] h i e = refl

@@ -1,5 +1,5 @@
 -- Where a tree of one shape of a table lacks another: kind by kind, place by place, field by field.
-use Rattle.std.proofs.Common.{◌≡◌, ◌<◌, ◌≤◌, ℕ, suc, List, [], ◌∷◌, ◌++◌, length, take, drop, Bool, true, false, ◌&&◌, not, Option, Some, None, option_map, is_some, is_none, Result, Ok, Err, String, Global, string_bytes, string_cmp, refl, sym, ap, ◌∙◌, subst, arith}
+use Rattle.std.proofs.Common.{◌≡◌, ◌<◌, ◌≤◌, ℕ, suc, List, [], ◌∷◌, ◌++◌, length, take, drop, Bool, true, false, ◌&&◌, not, Option, Some, None, option_map, is_some, is_none, Result, Ok, Err, refl, sym, ap, ◌∙◌, subst, arith}
 use Rattle.std.proofs.lemmas.List.{drop_all, nil_from_length, take_all}
 use Rattle.std.specs.Bool.{then_some}
 use Rattle.std.specs.BTreeMap.{is_at}
@@ -31,6 +31,8 @@ use Rattle.asl_numbered.specs.TakenApart.{arrays_over, objects_over, kinds_over}
 use Rattle.asl_numbered.proofs.Built.{examples_listed}
 use Rattle.asl_numbered.proofs.Parts.{IsNextPart, next_part, no_part}
 use Rattle.asl_numbered.proofs.Comparisons.{any_sub, mention_of_number, mentions_number}
+use Rattle.asl_numbered.specs.Names.{Name, name_cmp}
+use Rattle.std.specs.Rc.{rc_str_bytes}
 
 -- ---- what the comparison tells
 
@@ -297,52 +299,52 @@ fields-not : (other : List ℕ → Option Shape) (n : List ℕ) (needed : Bool) 
 fields-not other n needed s shapes fs none = rw none refl
 
 -- a field's tree is set
-pub field_found : (table : List Shape) (bound : ℕ) (other : List ℕ → Option Shape) (inner left : List (String Global × NodeField)) (f : String Global × NodeField) (now : List (String Global × NodeField)) (whole : Option Fields) (step : Step) (sought : Sought) (answer : Bool)
-    → whole ≡ fields_outside other (fields_at table now) (needed_of table inner) → now ≡ f ∷ left → other (string_bytes f.0) ≡ Some (first_shape table sought.first) → sought.second ≡ f.1.shape
-    → ((t : Tree) → step_over table step t ≡ Object (set_field (string_bytes f.0) t (needed_of table inner)))
+pub field_found : (table : List Shape) (bound : ℕ) (other : List ℕ → Option Shape) (inner left : List (Name × NodeField)) (f : Name × NodeField) (now : List (Name × NodeField)) (whole : Option Fields) (step : Step) (sought : Sought) (answer : Bool)
+    → whole ≡ fields_outside other (fields_at table now) (needed_of table inner) → now ≡ f ∷ left → other (rc_str_bytes f.0) ≡ Some (first_shape table sought.first) → sought.second ≡ f.1.shape
+    → ((t : Tree) → step_over table step t ≡ Object (set_field (rc_str_bytes f.0) t (needed_of table inner)))
     → answer ≡ sub (first_shape table sought.first) (shape_at table sought.second) → answer ≡ false → AreBelow (length table) (numbers_of step) → IsSought table bound sought
     → IsFound table bound (option_map Object whole) (Some (record { step = step; next = Some sought }))
 field_found table bound other inner left f now whole step sought answer so_far split at second over is fails below next =
-    part_found table bound (option_map Object whole) step sought answer is fails (λ there. ap (option_map Object) (so_far ∙ ap (λ fs. fields_outside other (fields_at table fs) (needed_of table inner)) split ∙ fields-here other (string_bytes f.0) f.1.needed (first_shape table sought.first) (shape_at table f.1.shape) (fields_at table left) (needed_of table inner) at (subst (λ n. is_some (outside (first_shape table sought.first) (shape_at table n)) ≡ true) second there)) ∙ ap (λ n. option_map Object (option_map (λ t. set_field (string_bytes f.0) t (needed_of table inner)) (outside (first_shape table sought.first) (shape_at table n)))) (sym second) ∙ go (outside (first_shape table sought.first) (shape_at table sought.second))) below next
+    part_found table bound (option_map Object whole) step sought answer is fails (λ there. ap (option_map Object) (so_far ∙ ap (λ fs. fields_outside other (fields_at table fs) (needed_of table inner)) split ∙ fields-here other (rc_str_bytes f.0) f.1.needed (first_shape table sought.first) (shape_at table f.1.shape) (fields_at table left) (needed_of table inner) at (subst (λ n. is_some (outside (first_shape table sought.first) (shape_at table n)) ≡ true) second there)) ∙ ap (λ n. option_map Object (option_map (λ t. set_field (rc_str_bytes f.0) t (needed_of table inner)) (outside (first_shape table sought.first) (shape_at table n)))) (sym second) ∙ go (outside (first_shape table sought.first) (shape_at table sought.second))) below next
   where
-    go : (o : Option Tree) → option_map Object (option_map (λ t. set_field (string_bytes f.0) t (needed_of table inner)) o) ≡ option_map (step_over table step) o
+    go : (o : Option Tree) → option_map Object (option_map (λ t. set_field (rc_str_bytes f.0) t (needed_of table inner)) o) ≡ option_map (step_over table step) o
     go None = refl
     go (Some t) = ap Some (sym (over t))
 
 -- it is passed, since no tree is found
-pub field_passed : (table : List Shape) (other : List ℕ → Option Shape) (fs : Fields) (left : List (String Global × NodeField)) (f : String Global × NodeField) (now : List (String Global × NodeField)) (whole : Option Fields) → whole ≡ fields_outside other (fields_at table now) fs → now ≡ f ∷ left → option_and_then (λ a. outside a (shape_at table f.1.shape)) (other (string_bytes f.0)) ≡ None → whole ≡ fields_outside other (fields_at table left) fs
+pub field_passed : (table : List Shape) (other : List ℕ → Option Shape) (fs : Fields) (left : List (Name × NodeField)) (f : Name × NodeField) (now : List (Name × NodeField)) (whole : Option Fields) → whole ≡ fields_outside other (fields_at table now) fs → now ≡ f ∷ left → option_and_then (λ a. outside a (shape_at table f.1.shape)) (other (rc_str_bytes f.0)) ≡ None → whole ≡ fields_outside other (fields_at table left) fs
 field_passed table other fs left f now whole so_far split none =
-    so_far ∙ ap (λ es. fields_outside other (fields_at table es) fs) split ∙ fields-not other (string_bytes f.0) f.1.needed (shape_at table f.1.shape) (fields_at table left) fs none
+    so_far ∙ ap (λ es. fields_outside other (fields_at table es) fs) split ∙ fields-not other (rc_str_bytes f.0) f.1.needed (shape_at table f.1.shape) (fields_at table left) fs none
 
 -- the shape of a mentioned field
-pub mentioned_number : (table : List Shape) (k : String Global) (inner : List (String Global × NodeField)) (other : NodeField) → lookup (is_at (string_cmp k)) inner ≡ Some other → mentioned_shape (fields_at table inner) (string_bytes k) ≡ Some (shape_at table other.shape)
+pub mentioned_number : (table : List Shape) (k : Name) (inner : List (Name × NodeField)) (other : NodeField) → lookup (is_at (name_cmp k)) inner ≡ Some other → mentioned_shape (fields_at table inner) (rc_str_bytes k) ≡ Some (shape_at table other.shape)
 mentioned_number table k inner other at = rw (mention_of_number table k inner, at) refl
 
 -- and of one that isn't
-pub mentioned_none : (table : List Shape) (k : String Global) (inner : List (String Global × NodeField)) (s : Shape) → lookup (is_at (string_cmp k)) inner ≡ None → option_and_then (λ a. outside a s) (mentioned_shape (fields_at table inner) (string_bytes k)) ≡ None
+pub mentioned_none : (table : List Shape) (k : Name) (inner : List (Name × NodeField)) (s : Shape) → lookup (is_at (name_cmp k)) inner ≡ None → option_and_then (λ a. outside a s) (mentioned_shape (fields_at table inner) (rc_str_bytes k)) ≡ None
 mentioned_none table k inner s at = rw (mention_of_number table k inner, at) refl
 
 -- one that is seen to be inside
-pub mentioned_inside : (table : List Shape) (k : String Global) (inner : List (String Global × NodeField)) (other : NodeField) (s : Shape) (answer : Bool) → lookup (is_at (string_cmp k)) inner ≡ Some other → answer ≡ sub (shape_at table other.shape) s → answer ≡ true → option_and_then (λ a. outside a s) (mentioned_shape (fields_at table inner) (string_bytes k)) ≡ None
+pub mentioned_inside : (table : List Shape) (k : Name) (inner : List (Name × NodeField)) (other : NodeField) (s : Shape) (answer : Bool) → lookup (is_at (name_cmp k)) inner ≡ Some other → answer ≡ sub (shape_at table other.shape) s → answer ≡ true → option_and_then (λ a. outside a s) (mentioned_shape (fields_at table inner) (rc_str_bytes k)) ≡ None
 mentioned_inside table k inner other s answer at is holds = rw (mention_of_number table k inner, at) (inside_none (shape_at table other.shape) s answer is holds)
 
 -- Any, for a field that the second alone mentions
-pub unmentioned_any : (table : List Shape) (k : String Global) (inner : List (String Global × NodeField)) (more there : Bool) → more ≡ true → there ≡ is_some (lookup (is_at (string_cmp k)) inner) → there ≡ false → unmentioned_shape (fields_at table inner) more (string_bytes k) ≡ Some Any
+pub unmentioned_any : (table : List Shape) (k : Name) (inner : List (Name × NodeField)) (more there : Bool) → more ≡ true → there ≡ is_some (lookup (is_at (name_cmp k)) inner) → there ≡ false → unmentioned_shape (fields_at table inner) more (rc_str_bytes k) ≡ Some Any
 unmentioned_any table k inner more there free is fails = rw (free, mentions_number table k inner, sym is ∙ fails) refl
 
 -- nothing, for one that can't be there, or that the first mentions, or that takes every tree
-pub unmentioned_shut : (table : List Shape) (k : String Global) (inner : List (String Global × NodeField)) (more : Bool) (s : Shape) → more ≡ false → option_and_then (λ a. outside a s) (unmentioned_shape (fields_at table inner) more (string_bytes k)) ≡ None
+pub unmentioned_shut : (table : List Shape) (k : Name) (inner : List (Name × NodeField)) (more : Bool) (s : Shape) → more ≡ false → option_and_then (λ a. outside a s) (unmentioned_shape (fields_at table inner) more (rc_str_bytes k)) ≡ None
 unmentioned_shut table k inner more s shut = rw shut refl
 
-pub unmentioned_not : (table : List Shape) (k : String Global) (inner : List (String Global × NodeField)) (more there : Bool) (s : Shape) → there ≡ is_some (lookup (is_at (string_cmp k)) inner) → there ≡ true → option_and_then (λ a. outside a s) (unmentioned_shape (fields_at table inner) more (string_bytes k)) ≡ None
+pub unmentioned_not : (table : List Shape) (k : Name) (inner : List (Name × NodeField)) (more there : Bool) (s : Shape) → there ≡ is_some (lookup (is_at (name_cmp k)) inner) → there ≡ true → option_and_then (λ a. outside a s) (unmentioned_shape (fields_at table inner) more (rc_str_bytes k)) ≡ None
 unmentioned_not table k inner more there s is holds = rw (mentions_number table k inner, sym is ∙ holds) (go more)
   where
     go : (b : Bool) → option_and_then (λ a. outside a s) (then_some (b && false) Any) ≡ None
     go true = refl
     go false = refl
 
-pub unmentioned_full : (table : List Shape) (k : String Global) (inner : List (String Global × NodeField)) (more all : Bool) (s : Shape) → all ≡ takes_all s → all ≡ true → option_and_then (λ a. outside a s) (unmentioned_shape (fields_at table inner) more (string_bytes k)) ≡ None
-unmentioned_full table k inner more all s is holds = go (more && not (mentions (string_bytes k) (fields_at table inner)))
+pub unmentioned_full : (table : List Shape) (k : Name) (inner : List (Name × NodeField)) (more all : Bool) (s : Shape) → all ≡ takes_all s → all ≡ true → option_and_then (λ a. outside a s) (unmentioned_shape (fields_at table inner) more (rc_str_bytes k)) ≡ None
+unmentioned_full table k inner more all s is holds = go (more && not (mentions (rc_str_bytes k) (fields_at table inner)))
   where
     go : (b : Bool) → option_and_then (λ a. outside a s) (then_some b Any) ≡ None
     go true = inside_none Any s all (is ∙ sym (any_sub s)) holds
@@ -350,23 +352,23 @@ unmentioned_full table k inner more all s is holds = go (more && not (mentions (
 
 -- ---- fields that the first alone mentions
 
-pub alone_found : (table : List Shape) (bound : ℕ) (m : Mentions) (outer left : List (String Global × NodeField)) (f : String Global × NodeField) (now : List (String Global × NodeField)) (step : Step) (there live : Bool)
+pub alone_found : (table : List Shape) (bound : ℕ) (m : Mentions) (outer left : List (Name × NodeField)) (f : Name × NodeField) (now : List (Name × NodeField)) (step : Step) (there live : Bool)
     → unshared_outside (fields_at table m.fields.now.entries) (fields_at table outer) (needed_of table m.fields.now.entries) ≡ unshared_outside (fields_at table now) (fields_at table outer) (needed_of table m.fields.now.entries) → now ≡ f ∷ left
-    → there ≡ is_some (lookup (is_at (string_cmp f.0)) outer) → there ≡ false → live ≡ inhabited (shape_at table f.1.shape) → live ≡ true
-    → step_over table step Null ≡ Object (set_field (string_bytes f.0) (first_tree (shape_at table f.1.shape)) (needed_of table m.fields.now.entries)) → AreBelow (length table) (numbers_of step)
+    → there ≡ is_some (lookup (is_at (name_cmp f.0)) outer) → there ≡ false → live ≡ inhabited (shape_at table f.1.shape) → live ≡ true
+    → step_over table step Null ≡ Object (set_field (rc_str_bytes f.0) (first_tree (shape_at table f.1.shape)) (needed_of table m.fields.now.entries)) → AreBelow (length table) (numbers_of step)
     → IsFound table bound (option_map Object (forbidden_fields table m outer)) (Some (record { step = step; next = None }))
 alone_found table bound m outer left f now step there live so_far split is fails also some over below =
     whole_found table bound (option_map Object (forbidden_fields table m outer)) step (rw (so_far, split, mentions_number table f.0 outer, sym is ∙ fails, sym also ∙ some) (ap Some (sym over))) below
 
-pub alone_passed : (table : List Shape) (fs : Fields) (first : FieldShapes) (outer left : List (String Global × NodeField)) (f : String Global × NodeField) (now : List (String Global × NodeField)) → unshared_outside first (fields_at table outer) fs ≡ unshared_outside (fields_at table now) (fields_at table outer) fs → now ≡ f ∷ left
-    → (not (mentions (string_bytes f.0) (fields_at table outer)) && inhabited (shape_at table f.1.shape)) ≡ false → unshared_outside first (fields_at table outer) fs ≡ unshared_outside (fields_at table left) (fields_at table outer) fs
+pub alone_passed : (table : List Shape) (fs : Fields) (first : FieldShapes) (outer left : List (Name × NodeField)) (f : Name × NodeField) (now : List (Name × NodeField)) → unshared_outside first (fields_at table outer) fs ≡ unshared_outside (fields_at table now) (fields_at table outer) fs → now ≡ f ∷ left
+    → (not (mentions (rc_str_bytes f.0) (fields_at table outer)) && inhabited (shape_at table f.1.shape)) ≡ false → unshared_outside first (fields_at table outer) fs ≡ unshared_outside (fields_at table left) (fields_at table outer) fs
 alone_passed table fs first outer left f now so_far split fails = so_far ∙ rw (split, fails) refl
 
-pub alone_shared : (table : List Shape) (outer : List (String Global × NodeField)) (f : String Global × NodeField) (there : Bool) → there ≡ is_some (lookup (is_at (string_cmp f.0)) outer) → there ≡ true → (not (mentions (string_bytes f.0) (fields_at table outer)) && inhabited (shape_at table f.1.shape)) ≡ false
+pub alone_shared : (table : List Shape) (outer : List (Name × NodeField)) (f : Name × NodeField) (there : Bool) → there ≡ is_some (lookup (is_at (name_cmp f.0)) outer) → there ≡ true → (not (mentions (rc_str_bytes f.0) (fields_at table outer)) && inhabited (shape_at table f.1.shape)) ≡ false
 alone_shared table outer f there is holds = rw (mentions_number table f.0 outer, sym is ∙ holds) refl
 
-pub alone_never : (table : List Shape) (outer : List (String Global × NodeField)) (f : String Global × NodeField) (live : Bool) → live ≡ inhabited (shape_at table f.1.shape) → live ≡ false → (not (mentions (string_bytes f.0) (fields_at table outer)) && inhabited (shape_at table f.1.shape)) ≡ false
-alone_never table outer f live is fails = rw (sym is ∙ fails) (go (not (mentions (string_bytes f.0) (fields_at table outer))))
+pub alone_never : (table : List Shape) (outer : List (Name × NodeField)) (f : Name × NodeField) (live : Bool) → live ≡ inhabited (shape_at table f.1.shape) → live ≡ false → (not (mentions (rc_str_bytes f.0) (fields_at table outer)) && inhabited (shape_at table f.1.shape)) ≡ false
+alone_never table outer f live is fails = rw (sym is ∙ fails) (go (not (mentions (rc_str_bytes f.0) (fields_at table outer))))
   where
     go : (b : Bool) → (b && false) ≡ false
     go true = refl

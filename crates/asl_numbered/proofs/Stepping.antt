@@ -26,7 +26,8 @@ use Rattle.asl_numbered.specs.declared.node.NodeField.{NodeField}
 use Rattle.asl_numbered.specs.Examples.{examples_at}
 use Rattle.asl_numbered.specs.Expansion.{fields_at, AreBelow}
 use Rattle.asl_numbered.specs.Outside.{IsSought, sought_tree, steps_left, step_over, steps_over, numbers_of, AreStepsWithin, IsFound}
-use Rattle.asl_numbered.proofs.Comparisons.{mentions_number}
+use Rattle.asl_numbered.proofs.Comparisons.{mentions_under}
+use Rattle.asl_numbered.specs.Names.{Name, text_cmp}
 
 -- ---- the steps that are found
 
@@ -116,24 +117,24 @@ field_set n k t fs es new so_far named inserted =
 
 -- ---- a new name
 
-counted : (table : List Shape) (fs : List (String Global × NodeField)) → counting.count_mentions (fields_at table fs) ≡ length fs
+counted : (table : List Shape) (fs : List (Name × NodeField)) → counting.count_mentions (fields_at table fs) ≡ length fs
 counted table [] = refl
 counted table (f ∷ fs) = ap suc (counted table fs)
 
 -- whether one of the fields has the name
-abbrev is_taken : String Global → List (String Global × NodeField) → List (String Global × NodeField) → Bool
-is_taken k fs others = is_some (lookup (is_at (string_cmp k)) fs) || is_some (lookup (is_at (string_cmp k)) others)
+abbrev pub is_taken : List ℕ → List (Name × NodeField) → List (Name × NodeField) → Bool
+is_taken n fs others = is_some (lookup (is_at (text_cmp n)) fs) || is_some (lookup (is_at (text_cmp n)) others)
 
-pub name_begun : (table : List Shape) (fs others : List (String Global × NodeField)) (k : String Global) (end : ℕ) → end ≡ length fs + length others → string_bytes k ≡ codes "a" → fresh_name (fields_at table fs) (fields_at table others) ≡ unmentioned_name (end - 0) (string_bytes k) (fields_at table fs) (fields_at table others)
+pub name_begun : (table : List Shape) (fs others : List (Name × NodeField)) (k : String Global) (end : ℕ) → end ≡ length fs + length others → string_bytes k ≡ codes "a" → fresh_name (fields_at table fs) (fields_at table others) ≡ unmentioned_name (end - 0) (string_bytes k) (fields_at table fs) (fields_at table others)
 name_begun table fs others k end e named =
     let all : counting.count_mentions (fields_at table fs) + counting.count_mentions (fields_at table others) ≡ end - 0 = rw (counted table fs, counted table others, e) (omega arith) in
     rw (all, named) refl
 
 -- the name is free
-pub name_free : (table : List Shape) (fs others : List (String Global × NodeField)) (k : String Global) (whole : List ℕ) (i end : ℕ) → i < end → whole ≡ unmentioned_name (end - i) (string_bytes k) (fields_at table fs) (fields_at table others) → is_some (lookup (is_at (string_cmp k)) fs) ≡ false → is_some (lookup (is_at (string_cmp k)) others) ≡ false → whole ≡ string_bytes k
+pub name_free : (table : List Shape) (fs others : List (Name × NodeField)) (k : String Global) (whole : List ℕ) (i end : ℕ) → i < end → whole ≡ unmentioned_name (end - i) (string_bytes k) (fields_at table fs) (fields_at table others) → is_some (lookup (is_at (text_cmp (string_bytes k))) fs) ≡ false → is_some (lookup (is_at (text_cmp (string_bytes k))) others) ≡ false → whole ≡ string_bytes k
 name_free table fs others k whole i end h so_far first second =
     let step : end - i ≡ suc (end - (i + 1)) = omega (arith, h) in
-    so_far ∙ rw (step, mentions_number table k fs, mentions_number table k others, first, second) refl
+    so_far ∙ rw (step, mentions_under table (string_bytes k) fs, mentions_under table (string_bytes k) others, first, second) refl
 
 -- it isn't, and is made longer
 pub name_longer : (k new : String Global) (i : ℕ) → string_bytes k ≡ replicate (i + 1) 97 → string_bytes new ≡ string_bytes k ++ 97 ∷ [] → (string_bytes new ≡ 97 ∷ string_bytes k) × (string_bytes new ≡ replicate (i + 1 + 1) 97)
@@ -146,10 +147,10 @@ name_longer k new i letters made =
     turned zero = refl
     turned (suc n) = ap (λ cs. 97 ∷ cs) (turned n)
 
-pub name_taken : (table : List Shape) (fs others : List (String Global × NodeField)) (k new : String Global) (whole : List ℕ) (i end : ℕ) → i < end → whole ≡ unmentioned_name (end - i) (string_bytes k) (fields_at table fs) (fields_at table others) → is_taken k fs others ≡ true → string_bytes new ≡ 97 ∷ string_bytes k → whole ≡ unmentioned_name (end - (i + 1)) (string_bytes new) (fields_at table fs) (fields_at table others)
+pub name_taken : (table : List Shape) (fs others : List (Name × NodeField)) (k new : String Global) (whole : List ℕ) (i end : ℕ) → i < end → whole ≡ unmentioned_name (end - i) (string_bytes k) (fields_at table fs) (fields_at table others) → is_taken (string_bytes k) fs others ≡ true → string_bytes new ≡ 97 ∷ string_bytes k → whole ≡ unmentioned_name (end - (i + 1)) (string_bytes new) (fields_at table fs) (fields_at table others)
 name_taken table fs others k new whole i end h so_far taken more =
     let step : end - i ≡ suc (end - (i + 1)) = omega (arith, h) in
-    so_far ∙ rw (step, mentions_number table k fs, mentions_number table k others, taken, more) refl
+    so_far ∙ rw (step, mentions_under table (string_bytes k) fs, mentions_under table (string_bytes k) others, taken, more) refl
 
 pub taken_first : (a b there : Bool) → there ≡ a → there ≡ true → (a || b) ≡ true
 taken_first a b there is holds = rw (sym is ∙ holds) refl

@@ -1,11 +1,9 @@
 -- How the shapes of a table are compared by their numbers: what is remembered, and what is left to do. No public clause
 -- cites this module.
-use Rattle.std.specs.Prelude.{◌≡◌, ◌<◌, ◌≤◌, ◌+◌, ◌*◌, ℕ, zero, suc, max, List, [], ◌∷◌, ◌++◌, length, Bool, true, false, ◌&&◌, ◌||◌, not, Option, Some, None, String}
-use Rattle.std.specs.declared.alloc.Global.{Global}
+use Rattle.std.specs.Prelude.{◌≡◌, ◌<◌, ◌≤◌, ◌+◌, ◌*◌, ℕ, zero, suc, max, List, [], ◌∷◌, ◌++◌, length, Bool, true, false, ◌&&◌, ◌||◌, not, Option, Some, None}
 use Rattle.std.specs.BTreeMap.{is_at}
 use Rattle.std.specs.List.{AllByRecursion}
 use Rattle.std.specs.Map.{lookup}
-use Rattle.std.specs.String.{string_cmp}
 use Rattle.asl_model.specs.Examples.{count_mentions}
 use Rattle.asl_model.specs.Shape as model
 use Rattle.asl_model.specs.ShapeOrder.{sub, takes_all, others_never_there}
@@ -15,6 +13,7 @@ use Rattle.asl_numbered.specs.declared.pair.Pair.{Pair}
 use Rattle.asl_numbered.specs.declared.comparing.Task.{Task}
 use Rattle.asl_numbered.specs.declared.comparing.Task.TheVariants.{Compare, Conclude}
 use Rattle.asl_numbered.specs.Expansion.{shape_at, fields_at}
+use Rattle.asl_numbered.specs.Names.{Name, name_cmp}
 
 -- the first shape is inside the second
 abbrev pub inside : List model.Shape → Pair → Bool
@@ -148,9 +147,9 @@ with_field_task None field tasks = tasks
 with_field_task (Some other) field tasks = Compare (record { first = other.shape; second = field.shape }) ∷ tasks
 
 -- all that both mention are
-abbrev pub field_tasks : List (String Global × NodeField) → List (String Global × NodeField) → List Task
+abbrev pub field_tasks : List (Name × NodeField) → List (Name × NodeField) → List Task
 field_tasks inner [] = []
-field_tasks inner (f ∷ outer) = with_field_task (lookup (is_at (string_cmp f.0)) inner) f.1 (field_tasks inner outer)
+field_tasks inner (f ∷ outer) = with_field_task (lookup (is_at (name_cmp f.0)) inner) f.1 (field_tasks inner outer)
 
 -- the field fits its mention in an object that has `more` or not, but for its shape where that mentions it
 abbrev pub mention_fits_in : List model.Shape → NodeField → Bool → Option NodeField → Bool
@@ -158,9 +157,9 @@ mention_fits_in table field more None = not field.needed && (not more || takes_a
 mention_fits_in table field more (Some other) = not field.needed || other.needed
 
 -- all of them do
-abbrev pub mentions_fit_in : List model.Shape → List (String Global × NodeField) → Bool → List (String Global × NodeField) → Bool
+abbrev pub mentions_fit_in : List model.Shape → List (Name × NodeField) → Bool → List (Name × NodeField) → Bool
 mentions_fit_in table inner more [] = true
-mentions_fit_in table inner more (f ∷ outer) = mention_fits_in table f.1 more (lookup (is_at (string_cmp f.0)) inner) && mentions_fit_in table inner more outer
+mentions_fit_in table inner more (f ∷ outer) = mention_fits_in table f.1 more (lookup (is_at (name_cmp f.0)) inner) && mentions_fit_in table inner more outer
 
 -- these objects are among those, where the shapes of the fields are that both mention
 abbrev pub objects_fit_in : List model.Shape → NodeObjects → NodeObjects → Bool

@@ -1,11 +1,12 @@
 -- The shapes that a list of nodes stands for, where each node has numbers for its parts.
-use Rattle.std.specs.Prelude.{◌≡◌, ◌<◌, ℕ, List, [], ◌∷◌, ◌++◌, length, map, get_or, String}
-use Rattle.std.specs.declared.alloc.Global.{Global}
+use Rattle.std.specs.Prelude.{◌≡◌, ◌<◌, ℕ, List, [], ◌∷◌, ◌++◌, length, map, get_or}
 use Rattle.asl_model.specs.Shape as model
-use Rattle.asl_shape.specs.View.{shapes_of, mentions_of, merged}
+use Rattle.asl_shape.specs.View.{shapes_of, merged}
 use Rattle.asl_numbered.specs.declared.node.Node.{Node}
 use Rattle.asl_numbered.specs.declared.node.Node.TheVariants.{Any, Never, Null, Bool as Truth, Int, Text, List as Elements, Object, Several}
 use Rattle.asl_numbered.specs.declared.node.NodeField.{NodeField}
+use Rattle.asl_numbered.specs.Names.{Name}
+use Rattle.std.specs.Rc.{rc_str_bytes}
 
 -- the shape of that number; Never where there is none
 abbrev pub shape_at : List model.Shape → ℕ → model.Shape
@@ -16,8 +17,9 @@ abbrev pub shapes_at : List model.Shape → List ℕ → model.Shapes
 shapes_at table ns = shapes_of (map (shape_at table) ns)
 
 -- the fields, with the shapes of their numbers
-abbrev pub fields_at : List model.Shape → List (String Global × NodeField) → model.FieldShapes
-fields_at table fs = mentions_of (map (λ f. (f.0, (f.1.needed, shape_at table f.1.shape))) fs)
+abbrev pub fields_at : List model.Shape → List (Name × NodeField) → model.FieldShapes
+fields_at table [] = model.NoFieldShapes
+fields_at table (f ∷ fs) = model.AndFieldShape (rc_str_bytes f.0) f.1.needed (shape_at table f.1.shape) (fields_at table fs)
 
 -- the shape whose first level is the node, and whose parts are the shapes of the node's numbers
 abbrev pub shape_over : List model.Shape → Node → model.Shape
@@ -32,7 +34,7 @@ shape_over table (Object fields extra) = model.ObjectShape (fields_at table fiel
 shape_over table (Several numbers) = merged (map (shape_at table) numbers.items)
 
 -- the numbers of fields
-abbrev pub numbers_in : List (String Global × NodeField) → List ℕ
+abbrev pub numbers_in : List (Name × NodeField) → List ℕ
 numbers_in fs = map (λ f. f.1.shape) fs
 
 -- the numbers in a node
@@ -91,6 +93,6 @@ pub record AreNumbersOf (table : List model.Shape) (shapes : model.Shapes) (ns :
   pub same : shapes_at table ns ≡ shapes
 
 -- the fields' numbers are in the table, and the fields with their shapes are these
-pub record AreFieldsOf (table : List model.Shape) (shapes : model.FieldShapes) (fs : List (String Global × NodeField)) : Type 0 where
+pub record AreFieldsOf (table : List model.Shape) (shapes : model.FieldShapes) (fs : List (Name × NodeField)) : Type 0 where
   pub within : AreBelow (length table) (numbers_in fs)
   pub same : fields_at table fs ≡ shapes

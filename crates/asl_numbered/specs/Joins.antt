@@ -1,11 +1,9 @@
 -- How the shapes of a table are joined by their numbers: what is remembered, and what is left to do. No public clause
 -- cites this module.
-use Rattle.std.specs.Prelude.{◌≡◌, ◌<◌, ◌≤◌, ◌+◌, ℕ, zero, suc, max, List, [], ◌∷◌, ◌++◌, length, map, take, drop, Bool, true, Option, Some, None, String}
-use Rattle.std.specs.declared.alloc.Global.{Global}
+use Rattle.std.specs.Prelude.{◌≡◌, ◌<◌, ◌≤◌, ◌+◌, ℕ, zero, suc, max, List, [], ◌∷◌, ◌++◌, length, map, take, drop, Bool, true, Option, Some, None}
 use Rattle.std.specs.BTreeMap.{is_at}
 use Rattle.std.specs.List.{AllByRecursion}
 use Rattle.std.specs.Map.{lookup}
-use Rattle.std.specs.String.{string_cmp}
 use Rattle.asl_model.specs.Shape as model
 use Rattle.asl_model.specs.Shape.{Simple, Shape, Any, OfKinds, Arrays, WithoutArrays, ArraysOf, Objects, WithoutObjects, ObjectsOf, Shapes, NoShapes, AndShape, FieldShapes, NoFieldShapes, AndFieldShape, ArrayShape, ObjectShape, inhabited}
 use Rattle.asl_model.specs.ShapeOrder.{depth, mention_of, further_places, joined_with_each, joined_fields, with_other_fields, join_arrays, join_objects, kept_arrays, kept_objects, join_kinds, join}
@@ -24,6 +22,7 @@ use Rattle.asl_numbered.specs.declared.joining.JoinTask.{JoinTask}
 use Rattle.asl_numbered.specs.declared.joining.JoinTask.TheVariants.{Join, Nothing, With, Finish}
 use Rattle.asl_numbered.specs.Comparison.{IsWithin}
 use Rattle.asl_numbered.specs.Expansion.{shape_at, shapes_at, fields_at, shape_over, numbers_in, parts, AreBelow, RefersBelow, Shows}
+use Rattle.asl_numbered.specs.Names.{Name, name_cmp}
 
 -- the join of the shapes of a pair
 abbrev pub joint : List Shape → Pair → Shape
@@ -218,9 +217,9 @@ field_joining field None = []
 field_joining field (Some other) = Join (record { first = field.shape; second = other.shape }) ∷ []
 
 -- the joins of the fields that both mention, the first last
-abbrev pub field_joinings : List (String Global × NodeField) → List (String Global × NodeField) → List JoinTask
+abbrev pub field_joinings : List (Name × NodeField) → List (Name × NodeField) → List JoinTask
 field_joinings [] others = []
-field_joinings (f ∷ fields) others = field_joinings fields others ++ field_joining f.1 (lookup (is_at (string_cmp f.0)) others)
+field_joinings (f ∷ fields) others = field_joinings fields others ++ field_joining f.1 (lookup (is_at (name_cmp f.0)) others)
 
 -- both shapes of the pair are inhabited
 pub record AreInhabited (table : List Shape) (p : Pair) : Type 0 where
@@ -388,12 +387,12 @@ pub record AreJoined (table : List Shape) (kinds : Option JoinedKinds) (s : Shap
 
 -- The joined fields are the first object's, joined with the second's, over each table in which the parts are the joins of
 -- the fields that both mention.
-pub record AreJoinedFields (fields others : List (String Global × NodeField)) (more : Bool) (parts : List ℕ) (joined : List (String Global × NodeField)) : Type 0 where
+pub record AreJoinedFields (fields others : List (Name × NodeField)) (more : Bool) (parts : List ℕ) (joined : List (Name × NodeField)) : Type 0 where
   pub shapes : (table : List Shape) → found_in table parts ≡ field_joins (fields_at table fields) (fields_at table others) → fields_at table joined ≡ joined_fields join (fields_at table fields) (fields_at table others) more
   pub below : (bound : ℕ) → AreBelow bound (numbers_in fields) → AreBelow bound parts → AreBelow bound (numbers_in joined)
 
 -- The new fields are the old ones with those of the second object that the first doesn't mention.
-pub record AreWithOthers (fields : List (String Global × NodeField)) (extra : Bool) (others old new : List (String Global × NodeField)) : Type 0 where
+pub record AreWithOthers (fields : List (Name × NodeField)) (extra : Bool) (others old new : List (Name × NodeField)) : Type 0 where
   pub shapes : (table : List Shape) → fields_at table new ≡ with_other_fields (fields_at table fields) extra (fields_at table others) (fields_at table old)
   pub below : (bound : ℕ) → AreBelow bound (numbers_in others) → AreBelow bound (numbers_in old) → AreBelow bound (numbers_in new)
 

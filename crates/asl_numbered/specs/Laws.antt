@@ -1,11 +1,11 @@
 -- Laws of tables of shapes: numbers below a bound, what stays as a table grows, and what the number of a shape is.
-use Rattle.std.specs.Prelude.{◌≡◌, ◌<◌, ◌≤◌, ℕ, List, [], ◌∷◌, ◌++◌, length, map, take, drop, Option, Some, None, IfSome, option_map, String}
-use Rattle.std.specs.declared.alloc.Global.{Global}
+use Rattle.std.specs.Prelude.{◌≡◌, ◌<◌, ◌≤◌, ℕ, List, [], ◌∷◌, ◌++◌, length, map, take, drop, Option, Some, None, IfSome, option_map}
 use Rattle.std.proofs.Common.{refl, sym, ap, ◌∙◌, subst, append_assoc, arith}
 use Rattle.std.proofs.lemmas.List.{append-nil, length-append, get_or_append_left, take-append-drop}
 use Rattle.asl_model.specs.Shape as model
 use Rattle.asl_numbered.specs.declared.node.NodeField.{NodeField}
 use Rattle.asl_numbered.specs.Expansion.{shape_at, numbers_in, AreBelow, AreDistinct, IsNumberOf, Keeps, Shows}
+use Rattle.asl_numbered.specs.Names.{Name}
 
 -- ---- numbers below a bound
 
@@ -42,7 +42,7 @@ pub below_next : (bound : ℕ) (now left : List ℕ) (n : ℕ) → now ≡ n ∷
 below_next bound now left n split h = subst (AreBelow bound) split h
 
 -- so it is with the numbers of fields
-pub below_next_field : (bound : ℕ) (now left : List (String Global × NodeField)) (m : String Global × NodeField) → now ≡ m ∷ left → AreBelow bound (numbers_in now) → (m.1.shape < bound) × AreBelow bound (numbers_in left)
+pub below_next_field : (bound : ℕ) (now left : List (Name × NodeField)) (m : Name × NodeField) → now ≡ m ∷ left → AreBelow bound (numbers_in now) → (m.1.shape < bound) × AreBelow bound (numbers_in left)
 below_next_field bound now left m split h = subst (λ fs. AreBelow bound (numbers_in fs)) split h
 
 -- ---- a table that has grown

@@ -5,6 +5,7 @@ pub mod Expansion
 pub mod Joins
 pub mod Kinds
 pub mod Laws
+pub mod Names
 pub mod Outside
 pub mod Reading
 pub mod References

@@ -1,6 +1,5 @@
 -- Where a tree of one shape of a table lacks another, by their numbers. No public clause cites this module.
-use Rattle.std.specs.Prelude.{◌≡◌, ◌<◌, ℕ, suc, List, [], ◌∷◌, ◌++◌, length, true, false, ◌&&◌, not, Option, Some, None, IfSome, is_some, option_map, pos, string_bytes, String, if◌then◌else◌}
-use Rattle.std.specs.declared.alloc.Global.{Global}
+use Rattle.std.specs.Prelude.{◌≡◌, ◌<◌, ℕ, suc, List, [], ◌∷◌, ◌++◌, length, true, false, ◌&&◌, not, Option, Some, None, IfSome, is_some, option_map, pos, if◌then◌else◌}
 use Rattle.asl_model.specs.Examples.{needed_examples, first_tree, fresh_name, outside, elements_outside, fields_outside, mentioned_shape, unmentioned_shape, forbidden_outside, only_if}
 use Rattle.std.specs.Option.{option_or}
 use Rattle.asl_model.specs.Placing.{set_field}
@@ -18,6 +17,8 @@ use Rattle.asl_numbered.specs.declared.kinds.NodeObjects.{NodeObjects}
 use Rattle.asl_numbered.specs.declared.node.NodeField.{NodeField}
 use Rattle.asl_numbered.specs.Examples.{examples_at}
 use Rattle.asl_numbered.specs.Expansion.{shape_at, shapes_at, fields_at, numbers_in, AreBelow}
+use Rattle.asl_numbered.specs.Names.{Name}
+use Rattle.std.specs.Rc.{rc_str_bytes}
 
 -- ---- shapes
 
@@ -80,7 +81,7 @@ steps_left None = 0
 steps_left (Some sought) = suc sought.second
 
 -- the needed ones of these fields
-abbrev pub needed_of : List Shape → List (String Global × NodeField) → Fields
+abbrev pub needed_of : List Shape → List (Name × NodeField) → Fields
 needed_of table fs = needed_examples (fields_at table fs)
 
 -- the tree of the step, with that one inside
@@ -93,9 +94,9 @@ step_over table steps.Zero t = Integer (pos 0)
 step_over table steps.Null t = Null
 step_over table steps.Empty t = Text []
 step_over table (steps.Needed fields) t = Object (needed_of table fields.now.entries)
-step_over table (steps.With fields name) t = Object (set_field (string_bytes name.now) t (needed_of table fields.now.entries))
+step_over table (steps.With fields name) t = Object (set_field (rc_str_bytes name.now) t (needed_of table fields.now.entries))
 step_over table (steps.WithFirst fields name number) t =
-    Object (set_field (string_bytes name.now) (first_tree (shape_at table number)) (needed_of table fields.now.entries))
+    Object (set_field (rc_str_bytes name.now) (first_tree (shape_at table number)) (needed_of table fields.now.entries))
 step_over table (steps.WithNew fields others) t =
     Object (set_field (fresh_name (fields_at table fields.now.entries) (fields_at table others.now.entries)) Null (needed_of table fields.now.entries))
 
@@ -151,18 +152,18 @@ found_elements table p arrays =
     (λ s. outside s (shape_at table arrays.rest))
 
 -- the fields that are found among those that both mention
-abbrev pub mentioned_fields : List Shape → List (String Global × NodeField) → List (String Global × NodeField) → Option Fields
+abbrev pub mentioned_fields : List Shape → List (Name × NodeField) → List (Name × NodeField) → Option Fields
 mentioned_fields table inner outer =
     fields_outside (mentioned_shape (fields_at table inner)) (fields_at table outer) (needed_of table inner)
 
 -- among those that the second alone mentions
-abbrev pub unmentioned_fields : List Shape → Mentions → List (String Global × NodeField) → Option Fields
+abbrev pub unmentioned_fields : List Shape → Mentions → List (Name × NodeField) → Option Fields
 unmentioned_fields table m outer =
     fields_outside (unmentioned_shape (fields_at table m.fields.now.entries) m.more) (fields_at table outer)
     (needed_of table m.fields.now.entries)
 
 -- among those that the second doesn't mention
-abbrev pub forbidden_fields : List Shape → Mentions → List (String Global × NodeField) → Option Fields
+abbrev pub forbidden_fields : List Shape → Mentions → List (Name × NodeField) → Option Fields
 forbidden_fields table m outer =
     forbidden_outside (fields_at table m.fields.now.entries) m.more (fields_at table outer)
     (needed_of table m.fields.now.entries)

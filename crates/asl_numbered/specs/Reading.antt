@@ -1,6 +1,5 @@
 -- What is read into a table, by the number that it gets. No public clause cites this module.
-use Rattle.std.specs.Prelude.{◌<◌, ℕ, List, length, Bool, Option, String, IfSome}
-use Rattle.std.specs.declared.alloc.Global.{Global}
+use Rattle.std.specs.Prelude.{◌<◌, ℕ, List, length, Bool, Option, IfSome}
 use Rattle.std.specs.List.{Contains}
 use Rattle.asl_model.specs.Shape as model
 use Rattle.asl_model.specs.Tree.{Tree, Trees, Fields}
@@ -11,6 +10,7 @@ use Rattle.asl_numbered.specs.References.{SpellsWith, SpellsOver, SpellsArrays, 
 use Rattle.asl_numbered.specs.declared.NumberedRefusal.{NumberedRefusal}
 use Rattle.asl_numbered.specs.declared.NumberedRefusal.TheVariants as refusal
 use Rattle.asl_numbered.specs.declared.node.NodeField.{NodeField}
+use Rattle.asl_numbered.specs.Names.{Name}
 
 -- the numbers that are given are below that bound
 pub record AreGiven (bound : ℕ) (given : Option (List ℕ)) : Type 0 where
@@ -43,7 +43,7 @@ pub record AreRead (several : Bool) (given : Option (List model.Shape)) (ts : Tr
   pub within : AreBelow (length table) ns
   pub spelled : SpellEach several given ts (shapes_at table ns)
 
-pub record AreFieldsRead (several : Bool) (given : Option (List model.Shape)) (fs : Fields) (table : List model.Shape) (es : List (String Global × NodeField)) : Type 0 where
+pub record AreFieldsRead (several : Bool) (given : Option (List model.Shape)) (fs : Fields) (table : List model.Shape) (es : List (Name × NodeField)) : Type 0 where
   pub within : AreBelow (length table) (numbers_in es)
   pub spelled : SpellFields several given fs (fields_at table es)
 

@@ -1,9 +1,7 @@
 -- What is true of the nodes of a table, each with what is known of its shape.
-use Rattle.std.specs.Prelude.{◌≡◌, ℕ, List, Some, slice_get, String}
-use Rattle.std.specs.declared.alloc.Global.{Global}
+use Rattle.std.specs.Prelude.{◌≡◌, ℕ, List, Some, slice_get}
 use Rattle.std.specs.List.Sorted.{IsStrictlySortedBy}
 use Rattle.std.specs.Map.{keys_of}
-use Rattle.std.specs.String.{string_cmp}
 use Rattle.asl_model.specs.Shape as model
 use Rattle.asl_numbered.specs.declared.node.Node.{Node}
 use Rattle.asl_numbered.specs.declared.node.Node.TheVariants.{Any, Never, Null, Bool as Truth, Int, Text, List as Elements, Object, Several}
@@ -11,10 +9,11 @@ use Rattle.asl_numbered.specs.declared.node.NodeField.{NodeField}
 use Rattle.asl_numbered.specs.declared.table.Facts.{Facts}
 use Rattle.asl_numbered.specs.Expansion.{expansions, shape_at, RefersBelow, AreDistinct}
 use Rattle.asl_numbered.specs.Kinds.{IsProperNode, full, tidy}
+use Rattle.asl_numbered.specs.Names.{Name, name_cmp}
 
 -- the names of the fields stand in byte order
-abbrev pub AreFieldsInOrder : List (String Global × NodeField) → Type 0
-AreFieldsInOrder fs = IsStrictlySortedBy string_cmp (keys_of fs)
+abbrev pub AreFieldsInOrder : List (Name × NodeField) → Type 0
+AreFieldsInOrder fs = IsStrictlySortedBy name_cmp (keys_of fs)
 
 -- so do those of the node, where it has fields
 abbrev pub HasFieldsInOrder : Node → Type 0

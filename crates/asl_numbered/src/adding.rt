@@ -12,6 +12,7 @@ use asl_shape::{Arrays, Field, Objects, Shape, take_apart};
 use asl_tree::OutOfMemory;
 use std::alloc::Global;
 use std::collections::BTreeMap;
+use std::rc::RcStr;
 
 /// The number of the shape.
 #[tactic(auto, using(crate::proofs::Expansions::simple_refers, crate::specs::Laws::keeps_trans))]
@@ -103,14 +104,14 @@ fn add_fields(
     table: &mut Table,
     alloc: Global,
     fields: &BTreeMap<String, Field>,
-) -> Result<BTreeMap<String, NodeField>, OutOfMemory>
+) -> Result<BTreeMap<RcStr, NodeField>, OutOfMemory>
     ensures numbers { IfOk result
         (λ m. AreFieldsOf table.new (fields_view fields.now.entries) m.entries) }
     ensures keeps { Keeps table.old table.new }
 {
     let mut numbered = BTreeMap::new(alloc);
     for (name, field) in fields.iter() {
-        let key = name.clone()?;
+        let key = RcStr::from_str(alloc, name)?;
         let shape = add(table, alloc, &field.shape)?;
         let field = NodeField {
             needed: field.needed,

@@ -19,6 +19,7 @@ use asl_tree::OutOfMemory;
 use indexmap::IndexMap;
 use std::alloc::Global;
 use std::collections::BTreeMap;
+use std::rc::RcStr;
 
 /// For pairs of numbers, whether the first's shape is inside the second's.
 pub(crate) type Compared = IndexMap<Pair, bool>;
@@ -261,8 +262,8 @@ fn objects_fit(table: &Table, inner: NodeObjects<'_>, outer: NodeObjects<'_>) ->
 
 // Puts down the fields that both objects mention, to be compared.
 fn put_fields(
-    inner: &BTreeMap<String, NodeField>,
-    outer: &BTreeMap<String, NodeField>,
+    inner: &BTreeMap<RcStr, NodeField>,
+    outer: &BTreeMap<RcStr, NodeField>,
     tasks: &mut Vec<Task>,
 ) -> Result<(), OutOfMemory>
     ensures put { IfOk result
@@ -284,9 +285,9 @@ fn put_fields(
 // mention it; `more` says whether the inner one has fields that it doesn't mention.
 fn mentions_fit(
     table: &Table,
-    inner: &BTreeMap<String, NodeField>,
+    inner: &BTreeMap<RcStr, NodeField>,
     more: bool,
-    outer: &BTreeMap<String, NodeField>,
+    outer: &BTreeMap<RcStr, NodeField>,
 ) -> bool
     ensures { result ≡ mentions_fit_in table.now inner.now.entries more outer.now.entries }
 {
@@ -306,8 +307,8 @@ fn mentions_fit(
 #[tactic(auto, using(crate::proofs::Comparisons::mentions_number))]
 fn others_never_there(
     table: &Table,
-    outer: &BTreeMap<String, NodeField>,
-    inner: &BTreeMap<String, NodeField>,
+    outer: &BTreeMap<RcStr, NodeField>,
+    inner: &BTreeMap<RcStr, NodeField>,
 ) -> bool
     ensures { result
         ≡ model.others_never_there

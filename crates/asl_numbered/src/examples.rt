@@ -2,7 +2,7 @@
 //
 // The shapes share their parts, and a tree doesn't, so that a few shapes may have a tree of any size: room for a large one
 // is asked for as a whole, before any of it is made.
-ghost use Rattle.std.specs.Prelude.{◌≡◌, ◌<◌, ◌≤◌, ◌++◌, IfOk, length, map, option_map, string_bytes};
+ghost use Rattle.std.specs.Prelude.{◌≡◌, ◌<◌, ◌≤◌, ◌++◌, IfOk, length, map, option_map};
 ghost use Rattle.asl_model.specs.Examples as model;
 ghost use Rattle.asl_tree.specs.View.{view, entries_view};
 ghost use Rattle.asl_numbered.specs.Examples as omitting;
@@ -19,6 +19,7 @@ use crate::weights::make_room;
 use asl_tree::{OutOfMemory, Tree};
 use std::alloc::Global;
 use std::collections::BTreeMap;
+use std::rc::RcStr;
 
 /// The example of the shape of that number.
 pub(crate) fn example(table: &Table, alloc: Global, number: usize) -> Result<Tree, OutOfMemory>
@@ -103,20 +104,20 @@ pub(crate) fn push_examples(
 pub(crate) fn build_needed(
     table: &Table,
     alloc: Global,
-    fields: &BTreeMap<String, NodeField>,
-    omitted: Option<&String>,
+    fields: &BTreeMap<RcStr, NodeField>,
+    omitted: Option<&str>,
     bound: usize,
 ) -> Result<BTreeMap<String, Tree>, OutOfMemory>
     requires within { bound ≤ length table.now }
     requires below { AreBelow bound (numbers_in fields.now.entries) }
     ensures built { IfOk result (λ m. entries_view m.entries
-        ≡ without (option_map (λ name. string_bytes name.now) omitted.entry)
+        ≡ without (option_map (λ name. name.now) omitted.entry)
         (model.needed_examples (fields_at table.now fields.now.entries))) }
 {
     let mut built = BTreeMap::new(alloc);
     for (name, field) in fields.iter() {
         if field.needed && !is_omitted(omitted, name) {
-            let key = name.clone()?;
+            let key = String::from_str(alloc, name)?;
             let tree = build(table, alloc, field.shape)?;
             drop(built.insert(key, tree)?);
         }
@@ -125,10 +126,9 @@ pub(crate) fn build_needed(
 }
 
 /// Whether the name is the one that is given.
-pub(crate) fn is_omitted(omitted: Option<&String>, name: &String) -> bool
+pub(crate) fn is_omitted(omitted: Option<&str>, name: &str) -> bool
     ensures { result
-        ≡ omitting.is_omitted (option_map (λ other. string_bytes other.now) omitted.entry)
-        (string_bytes name.now) }
+        ≡ omitting.is_omitted (option_map (λ other. other.now) omitted.entry) name.now }
 {
     match omitted {
         Some(other) => name == other,

@@ -13,6 +13,7 @@ use asl_shape::{Field, OwnedArrays, OwnedKinds, OwnedObjects, Shape, of_kinds};
 use asl_tree::OutOfMemory;
 use std::alloc::Global;
 use std::collections::BTreeMap;
+use std::rc::RcStr;
 
 /// The shape of that number; `Never` where there is none.
 #[cycle(expand)]
@@ -123,7 +124,7 @@ fn expand_all(
 fn expand_fields(
     table: &Table,
     alloc: Global,
-    fields: &BTreeMap<String, NodeField>,
+    fields: &BTreeMap<RcStr, NodeField>,
     bound: usize,
 ) -> Result<BTreeMap<String, Field>, OutOfMemory>
     requires { AreBelow bound (numbers_in fields.now.entries) }
@@ -133,7 +134,7 @@ fn expand_fields(
 {
     let mut expanded = BTreeMap::new(alloc);
     for (name, field) in fields.iter() {
-        let key = name.clone()?;
+        let key = String::from_str(alloc, name)?;
         let shape = expand(table, alloc, field.shape)?;
         let field = Field {
             needed: field.needed,

@@ -23,6 +23,7 @@ use crate::table::Table;
 use asl_tree::OutOfMemory;
 use std::alloc::Global;
 use std::collections::BTreeMap;
+use std::rc::RcStr;
 
 /// Two shapes: a tree is sought that has the first and lacks the second.
 #[derive(Clone, Copy)]
@@ -52,22 +53,22 @@ pub(crate) enum Step<'t> {
     /// The empty text.
     Empty,
     /// The object of the needed ones of these fields, with examples of their shapes.
-    Needed(&'t BTreeMap<String, NodeField>),
+    Needed(&'t BTreeMap<RcStr, NodeField>),
     /// The same with the field of that name set to the tree inside.
     With {
-        fields: &'t BTreeMap<String, NodeField>,
-        name: &'t String,
+        fields: &'t BTreeMap<RcStr, NodeField>,
+        name: &'t RcStr,
     },
     /// The same with the field of that name set to a tree of the shape of that number.
     WithFirst {
-        fields: &'t BTreeMap<String, NodeField>,
-        name: &'t String,
+        fields: &'t BTreeMap<RcStr, NodeField>,
+        name: &'t RcStr,
         number: usize,
     },
     /// The same with a field set to `null` that neither these nor the others mention.
     WithNew {
-        fields: &'t BTreeMap<String, NodeField>,
-        others: &'t BTreeMap<String, NodeField>,
+        fields: &'t BTreeMap<RcStr, NodeField>,
+        others: &'t BTreeMap<RcStr, NodeField>,
     },
 }
 
@@ -110,7 +111,7 @@ pub(crate) struct Places<'t> {
 #[derive(Clone, Copy)]
 pub(crate) struct Mentions<'t> {
     /// The mentioned fields.
-    pub(crate) fields: &'t BTreeMap<String, NodeField>,
+    pub(crate) fields: &'t BTreeMap<RcStr, NodeField>,
     /// Whether there may be other fields.
     pub(crate) more: bool,
 }
@@ -121,7 +122,7 @@ pub(crate) fn find<'t>(
     table: &'t Table,
     compared: &mut Compared,
     alloc: Global,
-    none: &'t BTreeMap<String, NodeField>,
+    none: &'t BTreeMap<RcStr, NodeField>,
     sought: Sought,
 ) -> Result<Option<Found<'t>>, OutOfMemory>
     requires right { AreRight table.now compared.old.entries }
@@ -144,7 +145,7 @@ pub(crate) fn find<'t>(
 // The kinds of the first shape.
 fn levels_of<'t>(
     table: &'t Table,
-    none: &'t BTreeMap<String, NodeField>,
+    none: &'t BTreeMap<RcStr, NodeField>,
     first: Option<usize>,
 ) -> Levels<'t>
     requires first { IfSome first (λ n. n < length table.now) }
@@ -419,7 +420,7 @@ fn find_object<'t>(
 
 // Whether a field is needed by the outer object and not by the inner one.
 #[tactic(auto, using(crate::proofs::Comparisons::mention_of_number))]
-fn needs_more(inner: &BTreeMap<String, NodeField>, outer: &BTreeMap<String, NodeField>) -> bool
+fn needs_more(inner: &BTreeMap<RcStr, NodeField>, outer: &BTreeMap<RcStr, NodeField>) -> bool
     ensures { (table : List shape.Shape) → result
         ≡ model.needs_more (fields_at table inner.now.entries) (fields_at table outer.now.entries) }
 {
@@ -468,8 +469,8 @@ fn find_mentioned<'t>(
     table: &'t Table,
     compared: &mut Compared,
     alloc: Global,
-    inner: &'t BTreeMap<String, NodeField>,
-    outer: &'t BTreeMap<String, NodeField>,
+    inner: &'t BTreeMap<RcStr, NodeField>,
+    outer: &'t BTreeMap<RcStr, NodeField>,
     bound: usize,
 ) -> Result<Option<Found<'t>>, OutOfMemory>
     requires right { AreRight table.now compared.old.entries }
@@ -507,7 +508,7 @@ fn find_mentioned<'t>(
 fn find_unmentioned<'t>(
     table: &'t Table,
     inner: Mentions<'t>,
-    outer: &'t BTreeMap<String, NodeField>,
+    outer: &'t BTreeMap<RcStr, NodeField>,
     bound: usize,
 ) -> Option<Found<'t>>
     requires inner { AreBelow (length table.now) (numbers_in inner.fields.now.entries) }
@@ -540,7 +541,7 @@ fn find_unmentioned<'t>(
 fn find_forbidden<'t>(
     table: &'t Table,
     inner: Mentions<'t>,
-    outer: &'t BTreeMap<String, NodeField>,
+    outer: &'t BTreeMap<RcStr, NodeField>,
 ) -> Option<Found<'t>>
     requires inner { AreBelow (length table.now) (numbers_in inner.fields.now.entries) }
     ensures { (bound : ℕ) → IsFound table.now bound

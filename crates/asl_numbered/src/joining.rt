@@ -25,6 +25,7 @@ use asl_tree::OutOfMemory;
 use indexmap::IndexMap;
 use std::alloc::Global;
 use std::collections::BTreeMap;
+use std::rc::RcStr;
 
 /// For pairs of numbers, the number of the join of their shapes.
 pub(crate) type Joined = IndexMap<Pair, usize>;
@@ -363,8 +364,8 @@ fn put_objects(
 // Puts down the joins of the fields that both objects mention, so that the first comes first.
 fn put_fields(
     tasks: &mut Vec<JoinTask>,
-    fields: &BTreeMap<String, NodeField>,
-    others: &BTreeMap<String, NodeField>,
+    fields: &BTreeMap<RcStr, NodeField>,
+    others: &BTreeMap<RcStr, NodeField>,
 ) -> Result<(), OutOfMemory>
     ensures put { IfOk result
         (λ _. tasks.new.items
@@ -585,11 +586,11 @@ fn join_both_objects(
 // doesn't mention, and `parts` are the joins of those that both mention.
 fn join_fields(
     alloc: Global,
-    fields: &BTreeMap<String, NodeField>,
-    others: &BTreeMap<String, NodeField>,
+    fields: &BTreeMap<RcStr, NodeField>,
+    others: &BTreeMap<RcStr, NodeField>,
     more: bool,
     parts: &[usize],
-) -> Result<BTreeMap<String, NodeField>, OutOfMemory>
+) -> Result<BTreeMap<RcStr, NodeField>, OutOfMemory>
     ensures joined { IfOk result
         (λ map. AreJoinedFields fields.now.entries others.now.entries more parts.now map.entries) }
 {
@@ -618,10 +619,10 @@ fn join_fields(
 // Adds the second object's fields that the first doesn't mention, the last one first, as optional ones, unless `extra`
 // says that the first may have fields that it doesn't mention.
 fn add_others(
-    fields: &BTreeMap<String, NodeField>,
+    fields: &BTreeMap<RcStr, NodeField>,
     extra: bool,
-    others: &BTreeMap<String, NodeField>,
-    joined: &mut BTreeMap<String, NodeField>,
+    others: &BTreeMap<RcStr, NodeField>,
+    joined: &mut BTreeMap<RcStr, NodeField>,
 ) -> Result<(), OutOfMemory>
     ensures added { IfOk result
         (λ _. AreWithOthers fields.now.entries extra others.now.entries joined.old.entries

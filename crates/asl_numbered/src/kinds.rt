@@ -12,6 +12,7 @@ use crate::table::Table;
 use asl_tree::OutOfMemory;
 use std::alloc::Global;
 use std::collections::BTreeMap;
+use std::rc::RcStr;
 
 /// What the shape of a number takes of each kind of tree. It lends from the table.
 #[derive(Clone, Copy, Debug)]
@@ -47,7 +48,7 @@ pub struct NodeObjects<'t> {
     /// The number of the shape of these objects alone.
     pub number: usize,
     /// The mentioned fields.
-    pub fields: &'t BTreeMap<String, NodeField>,
+    pub fields: &'t BTreeMap<RcStr, NodeField>,
     /// Whether there may be other fields.
     pub extra: bool,
 }

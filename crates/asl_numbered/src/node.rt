@@ -1,6 +1,7 @@
 // One level of a shape.
 
 use std::collections::BTreeMap;
+use std::rc::RcStr;
 
 /// One level of a shape, with numbers for its parts: those of the shapes in a table.
 #[derive(Debug, PartialEq, Eq, Hash, Drop)]
@@ -24,9 +25,9 @@ pub enum Node {
         rest: usize,
     },
     /// The objects in which each needed field is there, and each mentioned field that is there has its shape. Fields
-    /// that aren't mentioned may be there where `extra` is true.
+    /// that aren't mentioned may be there where `extra` is true. A copy of a node shares its names.
     Object {
-        fields: BTreeMap<String, NodeField>,
+        fields: BTreeMap<RcStr, NodeField>,
         extra: bool,
     },
     /// The trees that have one of the shapes of these numbers.

@@ -20,6 +20,7 @@ use crate::weights::{OWN_WEIGHT, examples_weight, make_room, needed_weight};
 use asl_tree::{OutOfMemory, Tree};
 use std::alloc::Global;
 use std::collections::BTreeMap;
+use std::rc::RcStr;
 
 /// A tree that has the first shape and lacks the second, if there is one: the first that `find` finds. Room for it is asked
 /// for at once.
@@ -50,7 +51,7 @@ fn find_steps<'t>(
     table: &'t Table,
     compared: &mut Compared,
     alloc: Global,
-    none: &'t BTreeMap<String, NodeField>,
+    none: &'t BTreeMap<RcStr, NodeField>,
     sought: Sought,
 ) -> Result<Option<Vec<Step<'t>>>, OutOfMemory>
     requires right { AreRight table.now compared.old.entries }
@@ -91,14 +92,16 @@ fn step_weight(table: &Table, step: Step<'_>) -> usize {
         }
         Step::False | Step::Zero | Step::Null | Step::Empty => 0,
         Step::Needed(fields) => needed_weight(table, fields, None),
-        Step::With { fields, name } => needed_weight(table, fields, Some(name)).saturating_add(
-            name.len(),
-        ),
+        Step::With { fields, name } => needed_weight(
+            table,
+            fields,
+            Some(name.as_str()),
+        ).saturating_add(name.len()),
         Step::WithFirst {
             fields,
             name,
             number,
-        } => needed_weight(table, fields, Some(name))
+        } => needed_weight(table, fields, Some(name.as_str()))
             .saturating_add(name.len())
             .saturating_add(table.weight(number)),
         Step::WithNew { fields, .. } => needed_weight(table, fields, None),
@@ -183,17 +186,17 @@ fn build_between(
 fn build_with(
     table: &Table,
     alloc: Global,
-    fields: &BTreeMap<String, NodeField>,
-    name: &String,
+    fields: &BTreeMap<RcStr, NodeField>,
+    name: &str,
     inside: Tree,
 ) -> Result<Tree, OutOfMemory>
     requires { AreBelow (length table.now) (numbers_in fields.now.entries) }
     ensures { IfOk result (λ t. view t
-        ≡ json.Object (set_field (string_bytes name.now) (view inside)
+        ≡ json.Object (set_field name.now (view inside)
         (needed_of table.now fields.now.entries))) }
 {
     let mut built = build_needed(table, alloc, fields, Some(name), table.len())?;
-    drop(built.insert(name.clone()?, inside)?);
+    drop(built.insert(String::from_str(alloc, name)?, inside)?);
     Ok(Tree::Object(built))
 }
 
@@ -211,8 +214,8 @@ fn build_first(table: &Table, alloc: Global, number: usize) -> Result<Tree, OutO
 // The first of `a`, `aa`, `aaa` and so on that none of the fields has for a name.
 fn new_name(
     alloc: Global,
-    fields: &BTreeMap<String, NodeField>,
-    others: &BTreeMap<String, NodeField>,
+    fields: &BTreeMap<RcStr, NodeField>,
+    others: &BTreeMap<RcStr, NodeField>,
 ) -> Result<String, OutOfMemory>
     ensures { (table : List shape.Shape) → IfOk result (λ name. string_bytes name
         ≡ model.fresh_name (fields_at table fields.now.entries)
@@ -220,7 +223,8 @@ fn new_name(
 {
     let mut name = String::from_str(alloc, "a")?;
     for _ in 0..fields.len() + others.len() {
-        if !fields.contains_key(&name) && !others.contains_key(&name) {
+        let text = name.as_str();
+        if !fields.contains_key(text) && !others.contains_key(text) {
             return Ok(name);
         }
         name.push('a')?;

@@ -20,6 +20,7 @@ use asl_shape::{Level, ListLevel, ObjectLevel, read_level};
 use asl_tree::{OutOfMemory, Tree};
 use std::alloc::Global;
 use std::collections::BTreeMap;
+use std::rc::RcStr;
 
 /// The number of the shape that the tree spells, where `{"shape": n}` stands for the shape of the number that is given
 /// at `n`, if numbers are given; `several` says whether lists of types may stand.
@@ -262,7 +263,7 @@ fn read_object(
     };
     let extra = object.extra;
     let mut fields = read_properties(table, alloc, object.properties, given, several)?;
-    require_all(table, &object.required, extra, &mut fields)?;
+    require_all(table, alloc, &object.required, extra, &mut fields)?;
     Ok(Some(table.put(Node::Object { fields, extra })?))
 }
 
@@ -274,7 +275,7 @@ fn read_properties(
     properties: Option<&BTreeMap<String, Tree>>,
     given: Option<&[usize]>,
     several: bool,
-) -> Result<BTreeMap<String, NodeField>, NumberedRefusal>
+) -> Result<BTreeMap<RcStr, NodeField>, NumberedRefusal>
     requires { AreGiven (length table.old) (numbers_given given) }
     ensures fields { IfOk result
         (λ m. AreFieldsRead several (shapes_given table.old given.entry)
@@ -297,7 +298,7 @@ fn read_members(
     members: &BTreeMap<String, Tree>,
     given: Option<&[usize]>,
     several: bool,
-) -> Result<BTreeMap<String, NodeField>, NumberedRefusal>
+) -> Result<BTreeMap<RcStr, NodeField>, NumberedRefusal>
     requires { AreGiven (length table.old) (numbers_given given) }
     ensures fields { IfOk result
         (λ m. AreFieldsRead several (shapes_given table.old given.entry)
@@ -309,7 +310,7 @@ fn read_members(
 {
     let mut fields = BTreeMap::new(alloc);
     for (name, member) in members.iter() {
-        let key = name.clone()?;
+        let key = RcStr::from_str(alloc, name)?;
         let shape = read(table, alloc, member, given, several)?;
         let field = NodeField {
             needed: false,
@@ -323,9 +324,10 @@ fn read_members(
 // Makes the fields of these names needed; those that aren't mentioned are added.
 fn require_all(
     table: &mut Table,
+    alloc: Global,
     names: &[&String],
     extra: bool,
-    fields: &mut BTreeMap<String, NodeField>,
+    fields: &mut BTreeMap<RcStr, NodeField>,
 ) -> Result<(), OutOfMemory>
     requires { AreBelow (length table.old) (numbers_in fields.old.entries) }
     ensures needed { IfOk result (λ _. AreFieldsOf table.new
@@ -335,7 +337,7 @@ fn require_all(
     ensures keeps { Keeps table.old table.new }
 {
     for name in names {
-        require(table, name, extra, fields)?;
+        require(table, alloc, name, extra, fields)?;
     }
     Ok(())
 }
@@ -343,13 +345,14 @@ fn require_all(
 // Makes the field of that name needed.
 fn require(
     table: &mut Table,
-    name: &String,
+    alloc: Global,
+    name: &str,
     extra: bool,
-    fields: &mut BTreeMap<String, NodeField>,
+    fields: &mut BTreeMap<RcStr, NodeField>,
 ) -> Result<(), OutOfMemory>
     requires { AreBelow (length table.old) (numbers_in fields.old.entries) }
     ensures needed { IfOk result (λ _. AreFieldsOf table.new
-        (model.with_needed extra (string_bytes name.now)
+        (model.with_needed extra name.now
         (fields_at table.old fields.old.entries))
         fields.new.entries) }
     ensures keeps { Keeps table.old table.new }
@@ -358,7 +361,7 @@ fn require(
         field.needed = true;
         return Ok(());
     }
-    let key = name.clone()?;
+    let key = RcStr::from_str(alloc, name)?;
     let shape = table.put(unmentioned(extra))?;
     let field = NodeField {
         needed: true,

@@ -15,6 +15,7 @@ use indexmap::IndexMap;
 use std::alloc::Global;
 use std::collections::BTreeMap;
 use std::marker::Model;
+use std::rc::RcStr;
 
 /// The nodes by number, each with what is known of its shape. Contracts see the list of the shapes that they stand for.
 #[derive(Drop)]
@@ -241,7 +242,7 @@ fn all_below(numbers: &[usize], bound: usize) -> bool
 }
 
 // Whether the number of each field is below the bound.
-fn fields_below(fields: &BTreeMap<String, NodeField>, bound: usize) -> bool
+fn fields_below(fields: &BTreeMap<RcStr, NodeField>, bound: usize) -> bool
     ensures { IsTrue result ↔ AreBelow bound (numbers_in fields.now.entries) }
 {
     for (_, field) in fields.iter() {
@@ -358,7 +359,7 @@ fn all_inhabited(table: &Table, numbers: &[usize]) -> bool
 }
 
 // Whether the shape of each needed field is inhabited.
-fn needed_inhabited(table: &Table, fields: &BTreeMap<String, NodeField>) -> bool
+fn needed_inhabited(table: &Table, fields: &BTreeMap<RcStr, NodeField>) -> bool
     ensures inhabited { result ≡ model.needed_inhabited (fields_at table.now fields.now.entries) }
     ensures ordered { AreFieldsInOrder fields.now.entries }
 {
@@ -396,7 +397,7 @@ fn is_node_full(table: &Table, node: &Node) -> bool
 }
 
 // Whether no field is needed, and each may be every tree.
-fn asks_nothing(table: &Table, fields: &BTreeMap<String, NodeField>) -> bool
+fn asks_nothing(table: &Table, fields: &BTreeMap<RcStr, NodeField>) -> bool
     ensures { result ≡ order.asks_nothing (fields_at table.now fields.now.entries) }
 {
     for (_, field) in fields.iter() {
@@ -446,7 +447,7 @@ fn some_has_several(table: &Table, numbers: &[usize]) -> bool
 }
 
 // Whether the shape of one of the fields, or one inside it, is of several kinds.
-fn field_has_several(table: &Table, fields: &BTreeMap<String, NodeField>) -> bool
+fn field_has_several(table: &Table, fields: &BTreeMap<RcStr, NodeField>) -> bool
     ensures { result ≡ model.field_has_several (fields_at table.now fields.now.entries) }
 {
     for (_, field) in fields.iter() {
@@ -483,7 +484,7 @@ fn are_places_tidy(table: &Table, numbers: &[usize]) -> bool
 }
 
 // Whether the shape of each needed field is inhabited, and nothing in the shape of a field is left out.
-fn are_fields_tidy(table: &Table, fields: &BTreeMap<String, NodeField>) -> bool
+fn are_fields_tidy(table: &Table, fields: &BTreeMap<RcStr, NodeField>) -> bool
     ensures { result ≡ tidy_fields (fields_at table.now fields.now.entries) }
 {
     for (_, field) in fields.iter() {

@@ -7,6 +7,7 @@ use asl_tree::{OutOfMemory, Tree};
 use std::alloc::Global;
 use std::collections::BTreeMap;
 use std::mem::size_of;
+use std::rc::RcStr;
 
 /// The weight of a tree without those inside it.
 pub(crate) const OWN_WEIGHT: usize = size_of::<Tree>();
@@ -58,8 +59,8 @@ pub(crate) fn examples_weight(table: &Table, numbers: &[usize]) -> usize {
 /// The weight of the needed fields with their names, but not of the one of that name, if one is given.
 pub(crate) fn needed_weight(
     table: &Table,
-    fields: &BTreeMap<String, NodeField>,
-    omitted: Option<&String>,
+    fields: &BTreeMap<RcStr, NodeField>,
+    omitted: Option<&str>,
 ) -> usize {
     let mut weight: usize = 0;
     for (name, field) in fields.iter() {

@@ -8,7 +8,7 @@ use Rattle.serde_json.specs.Data.{Data, Members}
 use Rattle.asl_model.specs.Records.{Reading, RecordRow, entries_complaints, entries_from, object_complaints}
 use Rattle.asl_tree.specs.View.{view, entries_view}
 use Rattle.asl_tree.specs.declared.Tree.{Tree}
-use Rattle.asl_numbered.proofs.Appending.{names, appended}
+use Rattle.asl_numbered.proofs.Appending.{names, appended_by}
 use Rattle.asl_records.specs.Parts.{TellsOneOf}
 use Rattle.asl_records.specs.Values.{as_members, as_value}
 use Rattle.asl_records.specs.declared.refusals.ReadFault.{ReadFault}
@@ -48,7 +48,7 @@ module _ {T A : Type 0} (reading : Reading) (see : T → A) (rows : List RecordR
       → string_bytes k ≡ string_bytes e.0 → more ≡ insert_entry string_cmp es k x → more ≡ es ++ (k, x) ∷ []
   goes_last all left rest es more e k x h split sorted same made =
       let whole : all ≡ h.done ++ e ∷ rest = h.whole ∙ ap (λ ms. h.done ++ ms) split in
-      made ∙ appended h.done e rest es k x (subst (λ ms. IsStrictlySortedBy string_cmp (keys_of ms)) whole sorted) h.named same
+      made ∙ appended_by string_bytes string_bytes h.done e rest es k x (subst (λ ms. IsStrictlySortedBy string_cmp (keys_of ms)) whole sorted) h.named same
 
   -- one more entry was read
   pub gone_on : (all left rest : List Stated) (es more : List (String Global × T)) (e : Stated) (k : String Global) (n : List ℕ) (x : T) → Reads all left es → left ≡ e ∷ rest → IsStrictlySortedBy string_cmp (keys_of all)

@@ -8,7 +8,7 @@ use Rattle.std.specs.Map.{keys_of}
 use Rattle.asl_model.specs.Certificate as model
 use Rattle.asl_model.specs.Shape.{Shape}
 use Rattle.asl_numbered.specs.Expansion.{shape_at, AreBelow, IsNumberOf, Keeps}
-use Rattle.asl_numbered.proofs.Appending.{names, appended}
+use Rattle.asl_numbered.proofs.Appending.{names, appended_by}
 use Rattle.asl_numbered.specs.Laws.{below-append, keeps_same, keeps_trans, kept_shape, kept_within}
 use Rattle.asl_shape.specs.View.{view}
 use Rattle.asl_shape.specs.declared.shape.Shape as code
@@ -52,7 +52,7 @@ module _ {X Y A : Type 0} (see : X → A) (show : Y → A) where
   -- the next entry goes last
   pub goes_last : (done left : List (String Global × X)) (m : String Global × X) (es new : List (String Global × Y)) (k : String Global) (y : Y) → IsStrictlySortedBy string_cmp (keys_of (done ++ m ∷ left))
       → shown es ≡ seen done → string_bytes k ≡ string_bytes m.0 → new ≡ insert_entry string_cmp es k y → new ≡ es ++ (k, y) ∷ []
-  goes_last done left m es new k y sorted so_far named made = made ∙ appended done m left es k y sorted (same_names es done so_far) named
+  goes_last done left m es new k y sorted so_far named made = made ∙ appended_by string_bytes string_bytes done m left es k y sorted (same_names es done so_far) named
 
   -- and stands for the entry that it was made of
   pub one_more : (done : List (String Global × X)) (m : String Global × X) (es new : List (String Global × Y)) (k : String Global) (y : Y) → shown es ≡ seen done → string_bytes k ≡ string_bytes m.0 → show y ≡ see m.1

@@ -30,10 +30,12 @@ use Rattle.asl_records.specs.WritingNumbered.{ArraysAreBelow, ObjectsAreBelow}
 use Rattle.asl_records.specs.declared.listing.Listing.{Listing}
 use Rattle.asl_records.specs.declared.records.NumberedCertificate.{NumberedCertificate}
 use Rattle.asl_records.proofs.Kept.{Entry}
+use Rattle.std.specs.Rc.{rc_str_bytes}
+use Rattle.asl_numbered.specs.Names.{Name}
 
 -- a field that a node mentions
 abbrev pub Mention : Type 0
-Mention = String Global × NodeField
+Mention = Name × NodeField
 
 -- ---- references
 
@@ -72,9 +74,9 @@ pub places_referred : (listed : List Shape) (table : List Shape) (ns : List ℕ)
 places_referred listed table [] = refl
 places_referred listed table (n ∷ ns) = ap (json.AndTree (referring listed (shape_at table n))) (places_referred listed table ns)
 
-pub fields_referred : (listed : List Shape) (table : List Shape) (fs : List Mention) → written_entries (referring listed) (map (λ f. (string_bytes f.0, shape_at table f.1.shape)) fs) ≡ fields_referring listed (fields_at table fs)
+pub fields_referred : (listed : List Shape) (table : List Shape) (fs : List Mention) → written_entries (referring listed) (map (λ f. (rc_str_bytes f.0, shape_at table f.1.shape)) fs) ≡ fields_referring listed (fields_at table fs)
 fields_referred listed table [] = refl
-fields_referred listed table (f ∷ fs) = ap (json.AndField (string_bytes f.0) (referring listed (shape_at table f.1.shape))) (fields_referred listed table fs)
+fields_referred listed table (f ∷ fs) = ap (json.AndField (rc_str_bytes f.0) (referring listed (shape_at table f.1.shape))) (fields_referred listed table fs)
 
 -- ---- elements
 
@@ -133,10 +135,10 @@ texts_shown [] = refl
 texts_shown (n ∷ ns) = ap (json.AndTree (json.Text n)) (texts_shown ns)
 
 -- one more name
-pub name_written : (ts new : List Tree) (f : Mention) (left now : List Mention) (k : String Global) (all : List json.Tree) → new ≡ ts ++ tree.Text k ∷ [] → now ≡ f ∷ left → f.1.needed ≡ true → string_bytes k ≡ string_bytes f.0 → map trees.view ts ++ needed_texts now ≡ all → map trees.view new ++ needed_texts left ≡ all
+pub name_written : (ts new : List Tree) (f : Mention) (left now : List Mention) (k : String Global) (all : List json.Tree) → new ≡ ts ++ tree.Text k ∷ [] → now ≡ f ∷ left → f.1.needed ≡ true → string_bytes k ≡ rc_str_bytes f.0 → map trees.view ts ++ needed_texts now ≡ all → map trees.view new ++ needed_texts left ≡ all
 name_written ts new f left now k all pushed split needed named so_far =
     let rest = needed_texts left in
-    let here : needed_texts (f ∷ left) ≡ json.Text (string_bytes f.0) ∷ rest = rw needed refl in
+    let here : needed_texts (f ∷ left) ≡ json.Text (rc_str_bytes f.0) ∷ rest = rw needed refl in
     rw pushed (ap (λ xs. xs ++ rest) (map-append trees.view ts (tree.Text k ∷ [])) ∙ append_assoc (map trees.view ts) (trees.view (tree.Text k) ∷ []) rest ∙ ap (λ t. map trees.view ts ++ (t ∷ rest)) (view_text k ∙ ap json.Text named) ∙ ap (λ xs. map trees.view ts ++ xs) (sym (ap needed_texts split ∙ here)) ∙ so_far)
 
 -- the names gone through, to the end

@@ -1,5 +1,5 @@
 -- What is left to do when shapes are listed, as steps over shapes: what they list, and that they end.
-use Rattle.std.proofs.Common.{◌≡◌, ◌<◌, ◌+◌, ℕ, suc, List, [], ◌∷◌, ◌++◌, map, Bool, true, false, if◌then◌else◌, Option, Some, None, option_map, String, Global, refl, sym, ap, ◌∙◌, subst, append_assoc, arith}
+use Rattle.std.proofs.Common.{◌≡◌, ◌<◌, ◌+◌, ℕ, suc, List, [], ◌∷◌, ◌++◌, map, Bool, true, false, if◌then◌else◌, Option, Some, None, option_map, refl, sym, ap, ◌∙◌, subst, append_assoc, arith}
 use Rattle.std.proofs.lemmas.List.{map-append}
 use Rattle.asl_model.specs.Shape.{Shape, Any, OfKinds, Arrays, WithoutArrays, ArraysOf, Objects, WithoutObjects, ObjectsOf, Shapes, NoShapes, AndShape, FieldShapes, NoFieldShapes, AndFieldShape, IsProperShape}
 use Rattle.asl_model.specs.WrittenNumbered.{same_shape, place_of, with_last, is_listed, with_last_if_listed, list_after, list_after_arrays, list_after_objects, list_after_places, list_after_fields}
@@ -14,6 +14,7 @@ use Rattle.asl_numbered.specs.declared.node.NodeField.{NodeField}
 use Rattle.asl_records.specs.Listing.{array_visits, object_visits, task_if, tasks_at, visits}
 use Rattle.asl_records.specs.declared.listing.Task.{Task}
 use Rattle.asl_records.specs.declared.listing.Task.TheVariants.{Visit, List as Put}
+use Rattle.asl_numbered.specs.Names.{Name}
 
 -- ---- a walk through a shape that is there lists nothing
 
@@ -160,7 +161,7 @@ module _ (table : List Shape) where
       let s = shape_at table n in
       ap (λ steps. all_done steps listed) (visit_last ns n) ∙ done-append (steps_of table (visits ns)) (VisitStep s ∷ []) listed ∙ places_done ns (list_after listed s)
 
-  fields_done : (fs : List (String Global × NodeField)) (listed : List Shape) → all_done (steps_of table (visits (numbers_in fs))) listed ≡ list_after_fields listed (fields_at table fs)
+  fields_done : (fs : List (Name × NodeField)) (listed : List Shape) → all_done (steps_of table (visits (numbers_in fs))) listed ≡ list_after_fields listed (fields_at table fs)
   fields_done [] listed = refl
   fields_done (f ∷ fs) listed =
       let s = shape_at table f.1.shape in
@@ -178,7 +179,7 @@ module _ (table : List Shape) where
       let s = shape_at table n in
       ap work (visit_last ns n) ∙ work-append (steps_of table (visits ns)) (VisitStep s ∷ []) ∙ rw (places_work ns) (omega arith)
 
-  fields_work : (fs : List (String Global × NodeField)) → work (steps_of table (visits (numbers_in fs))) ≡ fields_cost (fields_at table fs)
+  fields_work : (fs : List (Name × NodeField)) → work (steps_of table (visits (numbers_in fs))) ≡ fields_cost (fields_at table fs)
   fields_work [] = refl
   fields_work (f ∷ fs) =
       let s = shape_at table f.1.shape in

@@ -9,7 +9,7 @@ use Rattle.std.specs.Map.{keys_of}
 use Rattle.asl_model.specs.Tree as json
 use Rattle.asl_model.specs.Certificate.{Declared, Certificate}
 use Rattle.asl_model.specs.Written.{written_shape, written_list, written_entries, written_task, written_declared, written_state, written_certificate, version_of}
-use Rattle.asl_tree.proofs.Texts.{after_first}
+use Rattle.asl_numbered.proofs.Appending.{by_bytes, after_first_by}
 use Rattle.asl_tree.specs.View as trees
 use Rattle.asl_tree.specs.declared.Tree.{Tree}
 use Rattle.asl_tree.specs.declared.Tree as tree
@@ -58,52 +58,53 @@ list_added n v fs new some added = by v.items (ap (λ n. n == 0) (sym v.ok.0) �
 
 -- ---- entries
 
--- T is what a table keeps of an entry, A what that stands for, by `see`; an entry is written by `written`, and P is known of it
-module _ {T A : Type 0} (see : T → A) (written : A → json.Tree) (P : A → Type 0) where
+-- K is a name, by its `bytes`, T what a table keeps of an entry, A what that stands for, by `see`; an entry is written by
+-- `written`, and P is known of it
+module _ {K T A : Type 0} (bytes : K → List ℕ) (see : T → A) (written : A → json.Tree) (P : A → Type 0) where
   -- each entry under its name
-  abbrev pub shown : List (String Global × T) → List (List ℕ × A)
-  shown es = map (λ e. (string_bytes e.0, see e.1)) es
+  abbrev pub shown : List (K × T) → List (List ℕ × A)
+  shown es = map (λ e. (bytes e.0, see e.1)) es
 
   -- the entries done are written, and those that are left make up the rest
-  pub record Writes (all left : List (String Global × T)) (es : List Entry) : Type 0 where
-    pub done : List (String Global × T)
+  pub record Writes (all left : List (K × T)) (es : List Entry) : Type 0 where
+    pub done : List (K × T)
     pub whole : all ≡ done ++ left
     pub entries : trees.entries_view es ≡ written_entries written (shown done)
     pub holds : AllByRecursion (λ (entry : List ℕ × A). P entry.1) (shown done)
 
-  pub begun : (all left : List (String Global × T)) (es : List Entry) → left ≡ all → es ≡ [] → Writes all left es
+  pub begun : (all left : List (K × T)) (es : List Entry) → left ≡ all → es ≡ [] → Writes all left es
   begun all left es same none = rw (same, none) (record { done = []; whole = refl; entries = refl; holds = tt })
 
   -- a name that is above those before it goes last
-  written_last : (done : List (String Global × T)) (m : String Global × T) (more : List (String Global × T)) → IsStrictlySortedBy string_cmp (keys_of (done ++ m ∷ more))
-      → with_field (string_bytes m.0) (written (see m.1)) (written_entries written (shown done)) ≡ written_entries written (shown (done ++ m ∷ []))
+  written_last : (done : List (K × T)) (m : K × T) (more : List (K × T)) → IsStrictlySortedBy (by_bytes bytes) (keys_of (done ++ m ∷ more))
+      → with_field (bytes m.0) (written (see m.1)) (written_entries written (shown done)) ≡ written_entries written (shown (done ++ m ∷ []))
   unfolding IsStrictlySortedBy
   written_last [] m more h = refl
   written_last (first ∷ done) m more h =
-      rw (after_first first done m more h.0) (ap (json.AndField (string_bytes first.0) (written (see first.1))) (written_last done m more h.1))
+      rw (after_first_by bytes first done m more h.0) (ap (json.AndField (bytes first.0) (written (see first.1))) (written_last done m more h.1))
 
-  holds_last : (done : List (String Global × T)) (m : String Global × T) → AllByRecursion (λ (entry : List ℕ × A). P entry.1) (shown done) → P (see m.1) → AllByRecursion (λ (entry : List ℕ × A). P entry.1) (shown (done ++ m ∷ []))
+  holds_last : (done : List (K × T)) (m : K × T) → AllByRecursion (λ (entry : List ℕ × A). P entry.1) (shown done) → P (see m.1) → AllByRecursion (λ (entry : List ℕ × A). P entry.1) (shown (done ++ m ∷ []))
   holds_last [] m h p = (p, tt)
   holds_last (first ∷ done) m h p = (h.0, holds_last done m h.1 p)
 
   -- one more entry was written
-  pub gone_on : (all left rest : List (String Global × T)) (es more : List Entry) (m : String Global × T) (k : String Global) (t : Tree) → Writes all left es → left ≡ m ∷ rest → IsStrictlySortedBy string_cmp (keys_of all)
-      → string_bytes k ≡ string_bytes m.0 → trees.view t ≡ written (see m.1) → P (see m.1) → more ≡ insert_entry string_cmp es k t → Writes all rest more
+  pub gone_on : (all left rest : List (K × T)) (es more : List Entry) (m : K × T) (k : String Global) (t : Tree) → Writes all left es → left ≡ m ∷ rest → IsStrictlySortedBy (by_bytes bytes) (keys_of all)
+      → string_bytes k ≡ bytes m.0 → trees.view t ≡ written (see m.1) → P (see m.1) → more ≡ insert_entry string_cmp es k t → Writes all rest more
   gone_on all left rest es more m k t h split sorted named is p made =
       let whole : all ≡ h.done ++ m ∷ rest = h.whole ∙ ap (λ ms. h.done ++ ms) split in
       record {
         done = h.done ++ m ∷ [];
         whole = whole ∙ sym (append_assoc h.done (m ∷ []) rest);
-        entries = ap trees.entries_view made ∙ field_added es k t ∙ rw (named, is, h.entries) (written_last h.done m rest (subst (λ ms. IsStrictlySortedBy string_cmp (keys_of ms)) whole sorted));
+        entries = ap trees.entries_view made ∙ field_added es k t ∙ rw (named, is, h.entries) (written_last h.done m rest (subst (λ ms. IsStrictlySortedBy (by_bytes bytes) (keys_of ms)) whole sorted));
         holds = holds_last h.done m h.holds p;
       }
 
   -- at the end
-  all_done : (all left : List (String Global × T)) (es : List Entry) (h : Writes all left es) → left ≡ [] → h.done ≡ all
+  all_done : (all left : List (K × T)) (es : List Entry) (h : Writes all left es) → left ≡ [] → h.done ≡ all
   all_done all left es h end = sym (h.whole ∙ ap (λ ms. h.done ++ ms) end ∙ append-nil h.done)
 
-  pub all_written : (all left : List (String Global × T)) (es : List Entry) → Writes all left es → left ≡ [] → trees.entries_view es ≡ written_entries written (shown all)
+  pub all_written : (all left : List (K × T)) (es : List Entry) → Writes all left es → left ≡ [] → trees.entries_view es ≡ written_entries written (shown all)
   all_written all left es h end = h.entries ∙ ap (λ ms. written_entries written (shown ms)) (all_done all left es h end)
 
-  pub all_hold : (all left : List (String Global × T)) (es : List Entry) → Writes all left es → left ≡ [] → AllByRecursion (λ (entry : List ℕ × A). P entry.1) (shown all)
+  pub all_hold : (all left : List (K × T)) (es : List Entry) → Writes all left es → left ≡ [] → AllByRecursion (λ (entry : List ℕ × A). P entry.1) (shown all)
   all_hold all left es h end = subst (λ ms. AllByRecursion (λ (entry : List ℕ × A). P entry.1) (shown ms)) (all_done all left es h end) h.holds

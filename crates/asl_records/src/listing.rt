@@ -17,6 +17,7 @@ use asl_numbered::{NodeArrays, NodeField, NodeKinds, NodeObjects, Shapes};
 use asl_tree::OutOfMemory;
 use std::alloc::Global;
 use std::collections::BTreeMap;
+use std::rc::RcStr;
 
 /// What is left to do with a number's shape.
 #[derive(Clone, Copy)]
@@ -243,10 +244,7 @@ fn put_places(tasks: &mut Vec<Task>, places: &[usize]) -> Result<(), OutOfMemory
 }
 
 /// Puts down the walks through the fields' shapes, so that the first comes first.
-fn put_fields(
-    tasks: &mut Vec<Task>,
-    fields: &BTreeMap<String, NodeField>,
-) -> Result<(), OutOfMemory>
+fn put_fields(tasks: &mut Vec<Task>, fields: &BTreeMap<RcStr, NodeField>) -> Result<(), OutOfMemory>
     ensures put { IfOk result
         (λ _. tasks.new.items ≡ tasks.old.items ++ visits (numbers_in fields.now.entries)) }
 {

@@ -29,6 +29,7 @@ use asl_shape::{Written, WrittenArrays, WrittenObjects, write, write_kinds};
 use asl_tree::{OutOfMemory, Tree};
 use std::alloc::Global;
 use std::collections::BTreeMap;
+use std::rc::RcStr;
 
 /// The tree that is written for a certificate, in which each distinct shape of lists, of objects or of several kinds is
 /// listed once, in `shapes`, behind its parts, and stands everywhere as a reference. Its version is that of
@@ -265,7 +266,7 @@ impl<'c> ShapeWriter<'c> {
     /// For each mentioned field what stands for its shape.
     fn refer_fields(
         &self,
-        fields: &BTreeMap<String, NodeField>,
+        fields: &BTreeMap<RcStr, NodeField>,
     ) -> Result<BTreeMap<String, Tree>, OutOfMemory>
         requires ready { IsReady self.now }
         requires below { AreBelow (length self.now.shapes.now) (numbers_in fields.now.entries) }
@@ -275,7 +276,7 @@ impl<'c> ShapeWriter<'c> {
     {
         let mut properties = BTreeMap::new(self.alloc);
         for (name, field) in fields.iter() {
-            let key = name.clone()?;
+            let key = String::from_str(self.alloc, name)?;
             drop(properties.insert(key, self.refer(field.shape)?)?);
         }
         Ok(properties)
@@ -323,7 +324,7 @@ fn write_reference(alloc: Global, place: usize) -> Result<Tree, OutOfMemory>
 /// The names of the needed fields, as texts.
 fn needed_names(
     alloc: Global,
-    fields: &BTreeMap<String, NodeField>,
+    fields: &BTreeMap<RcStr, NodeField>,
 ) -> Result<Vec<Tree>, OutOfMemory>
     ensures written { IfOk result
         (λ v. (table : List shape.Shape) → trees.elements_view v.items
@@ -332,7 +333,7 @@ fn needed_names(
     let mut names = Vec::new(alloc);
     for (name, field) in fields.iter() {
         if field.needed {
-            names.push(Tree::Text(name.clone()?))?;
+            names.push(Tree::Text(String::from_str(alloc, name)?))?;
         }
     }
     Ok(names)

@@ -8,6 +8,7 @@ use Rattle.asl_flow.proofs.Composed.{shows_equal}
 use Rattle.asl_flow.proofs.KindNumbers.{objects_shown, objects_within, arrays_shown, arrays_within}
 use Rattle.asl_flow.proofs.NarrowedParts.{place_found, place_within, mention_found, field_within, narrowed_list, same_list, narrowed_object, widened_object, closed_object}
 use Rattle.asl_flow.proofs.narrowing.+narrow.Goals as goal
+use Rattle.asl_flow.proofs.NumberedParts.{got_under}
 
 -- ---- a field of the objects
 
@@ -15,7 +16,7 @@ pub narrow_field-narrow_to_present-requires : goal.narrow_field-narrow_to_presen
 narrow_field-narrow_to_present-requires t c =
     let objects = c.in-Some-objects.objects in
     let within = objects_within c.args.shapes.now c.in-Some.kinds _ c.in-Some.ensures.within c.in-Some.ensures.shown objects c.in-Some-objects.is in
-    (omega (arith, c.decreases), field_within c.args.name.now objects.fields.now c.get.result c.copied.result c.get.ensures.value c.copied.ensures (length c.args.shapes.now) c.in-Some-copied.field c.in-Some-copied.is within.fields)
+    (omega (arith, c.decreases), field_within c.args.name.now objects.fields.now c.get.result c.copied.result (got_under objects.fields.now c.as_str.ensures.value c.get.ensures.value) c.copied.ensures (length c.args.shapes.now) c.in-Some-copied.field c.in-Some-copied.is within.fields)
 
 pub narrow_field-put_field-requires-clause-number : goal.narrow_field-put_field-requires-clause-number
 narrow_field-put_field-requires-clause-number t c =
@@ -30,7 +31,7 @@ narrow_field-returns-in_ok-narrowed-in-Some-copied-clause-shown t c =
     let field = c.in-Some-copied.field in
     let go_on = where_present (segments_view c.args.rest.now) in
     let own = objects_shown c.args.shapes.now kinds _ c.in-Some.ensures.within c.in-Some.ensures.shown objects c.in-Some-objects.is in
-    let found = mention_found c.args.name.now objects.fields.now c.get.result c.copied.result c.get.ensures.value c.copied.ensures table (Some field) c.in-Some-copied.is in
+    let found = mention_found c.args.name.now objects.fields.now c.get.result c.copied.result (got_under objects.fields.now c.as_str.ensures.value c.get.ensures.value) c.copied.ensures table (Some field) c.in-Some-copied.is in
     let narrowed = narrowed_object go_on c.args.shapes.now c.narrow_to_present.new.shapes c.args.number c.in_ok-narrowed-in-Some-copied.narrowed c.requires.number c.in_ok-narrowed-in-Some-copied.ensures.keeps (simple_of kinds) (string_bytes c.args.name.now) field.shape field.needed (arrays_over table kinds.arrays) (fields_at table objects.fields.now.entries) objects.extra own found c.in_ok-narrowed-in-Some-copied.ensures.shown in
     shows_equal c.put_field.new.shapes _ _ c.put_field.result narrowed c.put_field.ensures.shown
 
@@ -47,7 +48,7 @@ narrow_field-returns-in_ok-any-in-None-clause-shown t c =
     let objects = c.in-Some-objects.objects in
     let go_on = where_present (segments_view c.args.rest.now) in
     let own = objects_shown c.args.shapes.now kinds _ c.in-Some.ensures.within c.in-Some.ensures.shown objects c.in-Some-objects.is in
-    let none = mention_found c.args.name.now objects.fields.now c.get.result c.copied.result c.get.ensures.value c.copied.ensures table None c.in-None.is in
+    let none = mention_found c.args.name.now objects.fields.now c.get.result c.copied.result (got_under objects.fields.now c.as_str.ensures.value c.get.ensures.value) c.copied.ensures table None c.in-None.is in
     let widened = widened_object go_on c.args.shapes.now c.put_node.new.shapes c.args.number c.in_ok-any-in-None.any c.requires.number c.in_ok-any-in-None.ensures.keeps (simple_of kinds) (string_bytes c.args.name.now) (arrays_over table kinds.arrays) (fields_at table objects.fields.now.entries) objects.extra own c.if-objects.true none c.in_ok-any-in-None.ensures.shown in
     shows_equal c.put_field-in-None.new.shapes _ _ c.put_field-in-None.result widened c.put_field-in-None.ensures.shown
 
@@ -58,7 +59,7 @@ narrow_field-returns-in-None-2-clause-shown t c =
     let objects = c.in-Some-objects.objects in
     let go_on = where_present (segments_view c.args.rest.now) in
     let own = objects_shown c.args.shapes.now kinds _ c.in-Some.ensures.within c.in-Some.ensures.shown objects c.in-Some-objects.is in
-    let none = mention_found c.args.name.now objects.fields.now c.get.result c.copied.result c.get.ensures.value c.copied.ensures table None c.in-None-2.is in
+    let none = mention_found c.args.name.now objects.fields.now c.get.result c.copied.result (got_under objects.fields.now c.as_str.ensures.value c.get.ensures.value) c.copied.ensures table None c.in-None-2.is in
     let closed = closed_object go_on (string_bytes c.args.name.now) (simple_of kinds) (arrays_over table kinds.arrays) (fields_at table objects.fields.now.entries) objects.extra _ own c.if-objects.false none in
     shows_equal c.put_never-in-None-2.new.shapes _ _ c.put_never-in-None-2.result closed c.put_never-in-None-2.ensures.shown
 

@@ -5,7 +5,7 @@ use Rattle.asl_model.specs.Shape.{Never}
 use Rattle.asl_model.specs.ShapeFlow.{put as put_shape, built_shape}
 use Rattle.asl_flow.specs.Counting.{counted_on}
 use Rattle.asl_flow.specs.Putting.{Answers}
-use Rattle.asl_flow.proofs.NumberedParts.{field_below}
+use Rattle.asl_flow.proofs.NumberedParts.{field_below, got_under}
 use Rattle.asl_flow.proofs.Puts.{answered_in_list, refused_in_object, answered_in_object, nothing_put, put_first, second_refused, both_joined, answered}
 use Rattle.asl_numbered.specs.Expansion.{shape_at}
 use Rattle.asl_numbered.specs.Laws.{kept_shape, kept_within}
@@ -26,7 +26,7 @@ put_in_list-returns-clause-answers t c =
 pub put_in_object-put_in_field-requires : goal.put_in_object-put_in_field-requires
 put_in_object-put_in_field-requires t c =
     let objects = c.in-Some.objects in
-    let there = field_below (length c.args.shapes.now) c.args.name.now objects.fields.now c.copied-field.result (c.copied-field.ensures ∙ c.get.ensures.value) c.in-Some.ensures.within.fields in
+    let there = field_below (length c.args.shapes.now) c.as_str.result.now objects.fields.now c.copied-field.result (c.copied-field.ensures ∙ c.get.ensures.value) c.in-Some.ensures.within.fields in
     (omega (arith, c.decreases), (there, (c.requires.placed, omega arith)))
 
 pub put_in_object-returns-in_err-value-clause-answers :
@@ -37,7 +37,7 @@ put_in_object-returns-in_err-value-clause-answers t c =
     let w = shape_at table c.args.placed in
     let s = shape_at table c.args.number in
     let objects = c.in-Some.objects in
-    refused_in_object c.put_in_field.new.shapes c.args.at (put_shape p w) p w s table c.args.name.now objects.fields.now objects.extra c.copied-field.result c.in_err-value.field-0.0 c.from_residual.result (sym c.in-Some.ensures.shown) (c.copied-field.ensures ∙ c.get.ensures.value) c.in_err-value.ensures.answers (search rules)
+    refused_in_object c.put_in_field.new.shapes c.args.at (put_shape p w) p w s table c.args.name.now objects.fields.now objects.extra c.copied-field.result c.in_err-value.field-0.0 c.from_residual.result (sym c.in-Some.ensures.shown) (got_under objects.fields.now c.as_str.ensures.value (c.copied-field.ensures ∙ c.get.ensures.value)) c.in_err-value.ensures.answers (search rules)
 
 pub put_in_object-put_field-requires-clause-number :
     goal.put_in_object-put_field-requires-clause-number
@@ -49,7 +49,7 @@ put_in_object-returns-clause-answers t c =
     let w = shape_at c.args.shapes.now c.args.placed in
     let objects = c.in-Some.objects in
     answered_in_object c.args.shapes.now c.put_in_field.new.shapes c.put_field.new.shapes c.args.at (put_shape p w) p w c.args.number c.args.name.now objects.fields.now objects.extra c.copied-field.result c.in_ok-value.value c.in_ok-put_field.field-0
-    c.requires.number c.put_in_field.ensures.keeps (sym c.in-Some.ensures.shown) (c.copied-field.ensures ∙ c.get.ensures.value) c.in_ok-value.ensures.answers c.in_ok-put_field.ensures.shown
+    c.requires.number c.put_in_field.ensures.keeps (sym c.in-Some.ensures.shown) (got_under objects.fields.now c.as_str.ensures.value (c.copied-field.ensures ∙ c.get.ensures.value)) c.in_ok-value.ensures.answers c.in_ok-put_field.ensures.shown
 
 pub put_in_optional-build-requires-clause-placed :
     goal.put_in_optional-build-requires-clause-placed

@@ -41,7 +41,7 @@ add_fields-loop-name-preserved t c =
       done ++ m ∷ [],
       all ∙ sym (append_assoc done (m ∷ []) left),
       keeps_trans _ _ _ l.invariant.2 c.in_ok-shape.ensures.keeps,
-      field_step _ _ done left m l.numbered.entries c.insert.new.self.entries c.in_ok-key.key _ sorted c.in_ok-shape.ensures.keeps l.invariant.3 c.in_ok-key.ensures.cases refl c.in_ok-shape.ensures.number c.in_ok-insert.ensures.entries,
+      field_step _ _ done left m l.numbered.entries c.insert.new.self.entries c.in_ok-key.key _ sorted c.in_ok-shape.ensures.keeps l.invariant.3 (c.in_ok-key.ensures.ok ∙ c.deref.ensures) refl c.in_ok-shape.ensures.number c.in_ok-insert.ensures.entries,
     )
 
 -- the parts are less deep

@@ -1,10 +1,11 @@
-use Rattle.std.proofs.Common.{◌≡◌, ◌+◌, ◌*◌, List, String, Global, ◌++◌, map, option_map, string_bytes, take, drop}
+use Rattle.std.proofs.Common.{◌≡◌, ◌+◌, ◌*◌, List, ◌++◌, map, option_map, take, drop}
 use Rattle.asl_model.specs.Examples.{needed_examples}
 use Rattle.asl_tree.specs.View.{view, entries_view}
 use Rattle.asl_numbered.specs.declared.node.NodeField.{NodeField}
 use Rattle.asl_numbered.specs.Examples.{examples_at, without}
 use Rattle.asl_numbered.specs.Expansion.{fields_at, numbers_in, AreBelow}
 use Rattle.asl_numbered.proofs.examples.+build.Given as goal
+use Rattle.asl_numbered.specs.Names.{Name}
 
 abbrev pub decreases-build : goal.decreases-build
 decreases-build l = 3 * l.number + 2
@@ -25,6 +26,6 @@ invariant-push_examples-loop-number l =
 
 abbrev pub invariant-build_needed-loop-name : goal.invariant-build_needed-loop-name
 invariant-build_needed-loop-name l =
-    (done : List (String Global × NodeField)) × (l.fields.entries ≡ done ++ l.name-iterator)
-    × (entries_view l.built.entries ≡ without (option_map (λ name. string_bytes name.now) l.omitted) (needed_examples (fields_at l.table done)))
+    (done : List (Name × NodeField)) × (l.fields.entries ≡ done ++ l.name-iterator)
+    × (entries_view l.built.entries ≡ without (option_map (λ name. name.now) l.omitted) (needed_examples (fields_at l.table done)))
     × AreBelow l.bound (numbers_in l.name-iterator)

@@ -1,8 +1,7 @@
-use Rattle.std.proofs.Common.{◌≡◌, ◌+◌, ◌∷◌, [], ◌++◌, take, drop, String, Global, refl, sym, ap, ◌∙◌, subst, append_assoc, arith, get_or}
+use Rattle.std.proofs.Common.{◌≡◌, ◌+◌, ◌∷◌, [], ◌++◌, take, drop, refl, sym, ap, ◌∙◌, subst, append_assoc, arith, get_or}
 use Rattle.std.proofs.lemmas.Grind.{common_steps}
 use Rattle.std.specs.List.Sorted.{IsStrictlySortedBy}
 use Rattle.std.specs.Map.{keys_of}
-use Rattle.std.specs.String.{string_cmp}
 use Rattle.asl_shape.specs.declared.shape.Shape.TheViews.{roll-Field}
 use Rattle.asl_shape.proofs.Sights.{inserted_proper, pushed_proper}
 use Rattle.asl_numbered.specs.declared.node.NodeField.{NodeField}
@@ -10,19 +9,20 @@ use Rattle.asl_numbered.specs.TakenApart.{AreArraysAt, AreObjectsAt, AreArraysIf
 use Rattle.asl_numbered.proofs.Growing.{expanded_push, expanded_step}
 use Rattle.asl_numbered.proofs.expanding.+expand.Goals as goal
 use Rattle.asl_numbered.specs.Laws.{below-wider, below_next, below_next_field}
+use Rattle.asl_numbered.specs.Names.{Name, name_cmp}
 
 pub expand_fields-loop-name-preserved : goal.expand_fields-loop-name-preserved
 expand_fields-loop-name-preserved t c =
     let l = c.loop-name in
     let done = l.invariant.0 in
-    let m : String Global × NodeField = (c.in-Some.name.now, c.in-Some.field.now) in
+    let m : Name × NodeField = (c.in-Some.name.now, c.in-Some.field.now) in
     let left = c.next.new.self in
     let all : c.args.fields.now.entries ≡ done ++ m ∷ left = l.invariant.1 ∙ ap (λ ms. done ++ ms) c.in-Some.ensures.steps in
-    let sorted = subst (λ ms. IsStrictlySortedBy string_cmp (keys_of ms)) all c.iter-name-items.ensures.ordered in
+    let sorted = subst (λ ms. IsStrictlySortedBy name_cmp (keys_of ms)) all c.iter-name-items.ensures.ordered in
     let field = roll-Field (record { needed = m.1.needed; shape = c.in_ok-shape.shape }) in (
       done ++ m ∷ [],
       all ∙ sym (append_assoc done (m ∷ []) left),
-      expanded_step c.args.table.now done left m l.expanded.entries c.insert.new.self.entries c.in_ok-key.key field sorted l.invariant.2 c.in_ok-key.ensures.cases refl c.in_ok-shape.ensures.expanded c.in_ok-insert.ensures.entries,
+      expanded_step c.args.table.now done left m l.expanded.entries c.insert.new.self.entries c.in_ok-key.key field sorted l.invariant.2 (c.in_ok-key.ensures.ok ∙ c.deref.ensures.value) refl c.in_ok-shape.ensures.expanded c.in_ok-insert.ensures.entries,
       (below_next_field c.args.bound l.name-iterator left m c.in-Some.ensures.steps l.invariant.3).1,
       inserted_proper l.expanded.entries c.insert.new.self.entries c.in_ok-key.key field l.invariant.4 c.in_ok-shape.ensures.proper c.in_ok-insert.ensures.entries,
     )
@@ -54,7 +54,7 @@ expand_all-loop-number-preserved t c =
 pub expand_fields-expand-requires : goal.expand_fields-expand-requires
 expand_fields-expand-requires t c =
     let l = c.loop-name in
-    let m : String Global × NodeField = (c.in-Some.name.now, c.in-Some.field.now) in
+    let m : Name × NodeField = (c.in-Some.name.now, c.in-Some.field.now) in
     let below = below_next_field c.args.bound l.name-iterator c.next.new.self m c.in-Some.ensures.steps l.invariant.3 in
     (omega (arith, below.0), tt)
 

@@ -1,10 +1,11 @@
-use Rattle.std.proofs.Common.{◌≡◌, ◌+◌, ◌*◌, List, String, Global, ◌++◌, take, drop}
+use Rattle.std.proofs.Common.{◌≡◌, ◌+◌, ◌*◌, List, ◌++◌, take, drop}
 use Rattle.std.specs.Prelude.{IsTrue}
 use Rattle.asl_shape.specs.Properness.{are_proper, fields_proper}
 use Rattle.asl_shape.specs.View.{shapes_view, fields_view}
 use Rattle.asl_numbered.specs.declared.node.NodeField.{NodeField}
 use Rattle.asl_numbered.specs.Expansion.{shapes_at, fields_at, numbers_in, AreBelow}
 use Rattle.asl_numbered.proofs.expanding.+expand.Given as goal
+use Rattle.asl_numbered.specs.Names.{Name}
 
 abbrev pub decreases-expand : goal.decreases-expand
 decreases-expand l = 4 * l.number + 3
@@ -31,6 +32,6 @@ invariant-expand_all-loop-number l =
 
 abbrev pub invariant-expand_fields-loop-name : goal.invariant-expand_fields-loop-name
 invariant-expand_fields-loop-name l =
-    (done : List (String Global × NodeField)) × (l.fields.entries ≡ done ++ l.name-iterator)
+    (done : List (Name × NodeField)) × (l.fields.entries ≡ done ++ l.name-iterator)
     × (fields_view l.expanded.entries ≡ fields_at l.table done)
     × AreBelow l.bound (numbers_in l.name-iterator) × IsTrue (fields_proper l.expanded.entries)

@@ -1,4 +1,4 @@
-use Rattle.std.proofs.Common.{◌∙◌, string_bytes, ap, arith}
+use Rattle.std.proofs.Common.{◌∙◌, ap, arith}
 use Rattle.asl_model.specs.Tree.{Object}
 use Rattle.asl_tree.proofs.Wholes.{view_object}
 use Rattle.asl_numbered.specs.Expansion.{numbers_in}
@@ -15,4 +15,4 @@ build_needed-requires-clause-below c = below_len c.args.table.now c.len.result (
 pub returns : goal.returns
 returns c =
     view_object c.insert.new.self
-    ∙ ap Object (field_set (string_bytes c.args.name.now) c.in_ok-clone.field-0 c.args.inside (needed_of c.args.table.now c.args.fields.now.entries) c.in_ok-built.built.entries c.insert.new.self.entries c.in_ok-built.ensures.built c.in_ok-clone.ensures.cases c.in_ok-insert.ensures.entries)
+    ∙ ap Object (field_set c.args.name.now c.in_ok-from_str.field-0 c.args.inside (needed_of c.args.table.now c.args.fields.now.entries) c.in_ok-built.built.entries c.insert.new.self.entries c.in_ok-built.ensures.built c.in_ok-from_str.ensures.ok c.in_ok-insert.ensures.entries)

@@ -13,7 +13,7 @@ use Rattle.asl_numbered.specs.Expansion.{fields_at, AreFieldsOf}
 use Rattle.asl_model.specs.ShapeSpelling.{with_all_needed}
 use Rattle.asl_numbered.specs.declared.kinds.KindNumbers.{KindNumbers}
 use Rattle.asl_numbered.specs.declared.node.NodeField.{NodeField}
-use Rattle.asl_numbered.proofs.Appending.{names}
+use Rattle.asl_numbered.proofs.Appending.{shared_names}
 use Rattle.asl_numbered.specs.Reading.{IsRead, IsReadRest, AreObjectsRead, TellsOneOf}
 use Rattle.asl_numbered.specs.References.{shapes_given, numbers_given, list_inside, object_inside, each_of, values_of, TellsOf}
 use Rattle.asl_numbered.proofs.Readings.{given_kept, given_same, reference_read, reference_told, level_told, over_answer, over_refusal, one_told, one_left, one_right, element_there, none_read, number_read, list_refers, list_read, kinds_read, no_list_read, no_object_read, no_rest_read, rest_answer, member_there, no_fields_read, field_read, object_refers, object_read}
@@ -167,7 +167,7 @@ read_object-returns-in_default-clause-number t c = no_object_read _ _ c.args.obj
 
 pub read_members-loop-name-init : goal.read_members-loop-name-init
 read_members-loop-name-init t c =
-    ([], search rules, keeps_same _, ap names c.new-fields.ensures.empty, rw c.new-fields.ensures.empty (no_fields_read c.args.several _ _))
+    ([], search rules, keeps_same _, ap shared_names c.new-fields.ensures.empty, rw c.new-fields.ensures.empty (no_fields_read c.args.several _ _))
 
 pub read_members-read-requires : goal.read_members-read-requires
 read_members-read-requires t c =
@@ -197,7 +197,7 @@ read_members-loop-name-preserved t c =
     let same = given_same c.args.table.now l.table c.args.given l.invariant.2 c.requires in
     let read = subst (λ given. IsRead c.args.several given (trees.view m.1) c.read.new.table c.in_ok-shape.shape) same c.in_ok-shape.ensures.number in
     let field : NodeField = record { needed = false; shape = c.in_ok-shape.shape } in
-    let step = field_read c.args.several (shapes_given c.args.table.now c.args.given) l.table c.read.new.table done left m l.fields.entries c.insert.new.self.entries c.in_ok-key.key field sorted c.in_ok-shape.ensures.keeps l.invariant.3 l.invariant.4 c.in_ok-key.ensures.cases refl read c.in_ok-insert.ensures.entries in (
+    let step = field_read c.args.several (shapes_given c.args.table.now c.args.given) l.table c.read.new.table done left m l.fields.entries c.insert.new.self.entries c.in_ok-key.key field sorted c.in_ok-shape.ensures.keeps l.invariant.3 l.invariant.4 (c.in_ok-key.ensures.ok ∙ c.deref.ensures) refl read c.in_ok-insert.ensures.entries in (
       done ++ m ∷ [],
       all ∙ sym (append_assoc done (m ∷ []) left),
       keeps_trans _ _ _ l.invariant.2 c.in_ok-shape.ensures.keeps,

@@ -7,7 +7,7 @@ use Rattle.asl_shape.proofs.Sizes.{size, elements_size, fields_size, size_there,
 use Rattle.asl_numbered.specs.Expansion.{Keeps}
 use Rattle.asl_numbered.specs.Reading.{AreRead, AreFieldsRead}
 use Rattle.asl_numbered.specs.References.{shapes_given}
-use Rattle.asl_numbered.proofs.Appending.{names}
+use Rattle.asl_numbered.proofs.Appending.{names, shared_names}
 use Rattle.asl_numbered.proofs.reading.+read.Given as goal
 
 abbrev pub decreases-read : goal.decreases-read
@@ -46,5 +46,5 @@ abbrev pub invariant-read_members-loop-name : goal.invariant-read_members-loop-n
 invariant-read_members-loop-name l =
     (done : List (String Global × Tree)) × (l.members.entries ≡ done ++ l.name-iterator)
     × Keeps l.initial.table l.table
-    × (names l.fields.entries ≡ names done)
+    × (shared_names l.fields.entries ≡ names done)
     × AreFieldsRead l.several (shapes_given l.initial.table l.given) (trees.entries_view done) l.table l.fields.entries

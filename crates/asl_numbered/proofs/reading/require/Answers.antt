@@ -1,9 +1,9 @@
 use Rattle.std.proofs.Common.{true, refl, sym, ap, ◌∙◌}
 use Rattle.std.specs.BTreeMap.{insert_entry}
-use Rattle.std.specs.String.{string_cmp}
 use Rattle.asl_numbered.specs.declared.node.NodeField.{NodeField}
 use Rattle.asl_numbered.proofs.Marking.{mark_found, mark_new}
 use Rattle.asl_numbered.proofs.reading.require.Goals as goal
+use Rattle.asl_numbered.specs.Names.{name_cmp}
 
 pub returns-in-Some-clause-needed : goal.returns-in-Some-clause-needed
 returns-in-Some-clause-needed c =
@@ -19,5 +19,5 @@ put-requires-clause-proper c = c.unmentioned.ensures.proper _
 pub returns-clause-needed : goal.returns-clause-needed
 returns-clause-needed c =
     let f : NodeField = record { needed = true; shape = c.in_ok-shape.shape } in
-    let inserted = c.in_ok-insert.ensures.entries ∙ ap (λ m. insert_entry string_cmp m.entries c.in_ok-key.key f) c.get_mut.follows.holds-at-none in
-    mark_new c.args.table.now c.put.new.self c.args.extra c.args.name.now c.in_ok-key.key f c.args.fields.now.entries _ _ c.in_ok-shape.ensures.keeps c.requires c.in_ok-key.ensures.cases refl c.in_ok-shape.ensures.number (c.unmentioned.ensures.shape _) (sym c.in_default.ensures.value) inserted
+    let inserted = c.in_ok-insert.ensures.entries ∙ ap (λ m. insert_entry name_cmp m.entries c.in_ok-key.key f) c.get_mut.follows.holds-at-none in
+    mark_new c.args.table.now c.put.new.self c.args.extra c.args.name.now c.in_ok-key.key f c.args.fields.now.entries _ _ c.in_ok-shape.ensures.keeps c.requires c.in_ok-key.ensures.ok refl c.in_ok-shape.ensures.number (c.unmentioned.ensures.shape _) (sym c.in_default.ensures.value) inserted

@@ -1,4 +1,4 @@
-use Rattle.std.proofs.Common.{◌≡◌, ◌∷◌, ◌+◌, ap, drop, string_bytes, arith}
+use Rattle.std.proofs.Common.{◌≡◌, ◌∷◌, ◌+◌, ap, drop, sym, ◌∙◌, arith}
 use Rattle.std.proofs.lemmas.Grind.{common_steps}
 use Rattle.asl_shape.specs.LevelView.{texts}
 use Rattle.asl_numbered.proofs.Marking.{marks_start, marks_step}
@@ -21,5 +21,5 @@ loop-name-preserved c =
     let item = c.name-item.result in
     let split : drop i names ≡ item ∷ drop (i + 1) names = grind (arith, common_steps) in (
       keeps_trans _ _ _ c.loop-name.invariant.0 c.in_ok-require.ensures.keeps,
-      marks_step c.args.extra _ _ (texts (drop i names)) (texts (drop (i + 1) names)) (string_bytes item.now) _ _ _ _ c.loop-name.invariant.1 (ap texts split) c.in_ok-require.ensures.needed,
+      marks_step c.args.extra _ _ (texts (drop i names)) (texts (drop (i + 1) names)) c.deref.result.now _ _ _ _ c.loop-name.invariant.1 (ap texts split ∙ ap (λ n. n ∷ texts (drop (i + 1) names)) (sym c.deref.ensures)) c.in_ok-require.ensures.needed,
     )
