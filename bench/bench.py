@@ -19,7 +19,8 @@ Each form is a kind of text in growing sizes; the names of all forms, or those t
 - verify-ring: so many states in a ring, in byte order of the names, of which the last nests its input one level deeper;
 - verify-ring-against: the same, against the order of the names;
 - verify-fields: a chain of states that each place a field of their own. The shape at each state is another one, so that the
-  names of all their fields grow as the square of the states: four fifths of the instructions copy and drop these;
+  entries of all their fields grow as the square of the states, though their names are shared: three fifths of the
+  instructions hash, copy, go over and drop these;
 - verify-nested: the nested Parallels and Maps of check-nested;
 - verify-hub: a Choice that leads to so many states, which all lead to one;
 - lint-hub: what is told of the machine of verify-hub, in which nothing is wrong;
