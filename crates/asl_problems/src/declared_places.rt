@@ -1,6 +1,6 @@
 //! Places in declared shapes.
-use crate::index::Index;
 use crate::problems::{Kind, Problem};
+use asl_faults::Index;
 use asl_places::{Member, Spot};
 
 /// Where a problem is told: at the name of a task, of a task that no state has; or at the value of the field, at the name

@@ -1,14 +1,17 @@
 //! Places in a definition.
-use crate::index::{Index, push_elements};
+use crate::found::At;
 use crate::nested::{NESTED, Nested};
 use crate::problems::{Kind, Problem};
-use crate::sources::{text_at, text_from};
-use crate::templates::{SUFFIX, refusal_of};
 use asl_check::{FindingFault, MissingPath};
+use asl_faults::{
+    Found, Index, Paths, SUFFIX, fault_of_rule, refusal_of, text_at, text_from, values_within,
+    wrong_kind_in,
+};
 use asl_machine::DefFault;
 use asl_places::{Member, Spot, States};
 use asl_tree::OutOfMemory;
 use std::alloc::Global;
+use std::collections::BTreeMap;
 
 /// The fields that a machine must have.
 const MACHINE_FIELDS: [&str; 2] = ["StartAt", "States"];
@@ -20,12 +23,56 @@ pub(crate) struct DefinitionPlaces<'s, 'f, 'a> {
     pub(crate) text: &'f [u8],
     pub(crate) index: &'s Index<'s, 'a>,
     pub(crate) states: &'s States<'a>,
+    /// The paths in the values of fields in which problems tell some, by the token with which such a value begins.
+    pub(crate) paths: &'s BTreeMap<usize, Paths>,
 }
 
 impl DefinitionPlaces<'_, '_, '_> {
-    /// The byte at which a problem is told.
-    pub(crate) fn byte_of(&self, problem: &Problem) -> Result<usize, OutOfMemory> {
-        Ok(self.index.offset(self.spot_of(problem)?))
+    /// Where a problem is told.
+    pub(crate) fn find(&self, problem: &Problem) -> Result<At, OutOfMemory> {
+        let found = match self.fault_inside(problem)? {
+            Some(found) => found,
+            None => Found::at(self.spot_of(problem)?),
+        };
+        Ok(At {
+            byte: self.index.offset(found.spot),
+            words: found.words,
+        })
+    }
+
+    /// What is wrong inside of a list of rules, retriers or catchers, where a complaint is of these.
+    fn fault_inside(&self, problem: &Problem) -> Result<Option<Found>, OutOfMemory> {
+        let (Kind::Complaint(fault), Some(list)) = (&problem.kind, self.value_of(problem)) else {
+            return Ok(None);
+        };
+        match (*fault, problem.field.as_deref()) {
+            (DefFault::BadRule, _) => self.refused_rule(list),
+            (DefFault::WrongKind, Some(field)) if field == "Retry" || field == "Catch" => {
+                wrong_kind_in(self.alloc, self.index, self.text, field, list)
+            }
+            _ => Ok(None),
+        }
+    }
+
+    /// What is wrong with the first of a Choice's rules that is refused.
+    fn refused_rule(&self, list: Spot) -> Result<Option<Found>, OutOfMemory> {
+        let Some(mut rules) = self.index.outline().items(list) else {
+            return Ok(None);
+        };
+        while let Some(rule) = rules.next() {
+            let found = fault_of_rule(self.alloc, self.index, self.text, rule)?;
+            if found.is_some() {
+                return Ok(found);
+            }
+        }
+        Ok(None)
+    }
+
+    /// The value of the state's field of which a problem is told.
+    fn value_of(&self, problem: &Problem) -> Option<Spot> {
+        let state = self.states.state(problem.state.as_deref()?)?;
+        let field = self.spelled(state, problem.field.as_deref()?);
+        Some(self.index.member(state.value, field)?.value)
     }
 
     /// The value or the name at which a problem is told.
@@ -36,7 +83,7 @@ impl DefinitionPlaces<'_, '_, '_> {
         };
         match &problem.kind {
             Kind::Finding(FindingFault::StartInput, _) => Ok(self.in_machine(field)),
-            Kind::Finding(_, path) => self.of_finding(name, field, path),
+            Kind::Finding(_, path) => Ok(self.of_finding(name, field, path)),
             Kind::Complaint(fault) => self.of_complaint(*fault, name, field),
             Kind::Odd { index, .. } => Ok(self.of_element(name, field, *index)),
             _ => Ok(self.index.root()),
@@ -77,6 +124,8 @@ impl DefinitionPlaces<'_, '_, '_> {
             DefFault::NameTooLong | DefFault::DuplicateName => Ok(state.name),
             DefFault::BadTemplate => self.in_template(state, field),
             DefFault::BadPath => self.no_path(state, field),
+            DefFault::EmptyList => Ok(self.empty_list(state, field)),
+            DefFault::BadErrorEquals => self.all_among_others(state, field),
             _ => Ok(self.index.field_or_name(state, field)),
         }
     }
@@ -142,7 +191,7 @@ impl DefinitionPlaces<'_, '_, '_> {
     /// The text in the field that is no state's name: its value, or the first such `Next` or `StartAt` in it.
     fn naming(&self, state: Member, field: &str) -> Result<Spot, OutOfMemory> {
         let whole = self.index.field_or_name(state, field);
-        let Some(mut items) = self.index.outline.items(whole) else {
+        let Some(mut items) = self.index.outline().items(whole) else {
             return Ok(self.misnamed_start(whole)?.unwrap_or(whole));
         };
         while let Some(item) = items.next() {
@@ -189,7 +238,7 @@ impl DefinitionPlaces<'_, '_, '_> {
     /// The text in the field that is no reference path: its value, or the first such `ResultPath` of the list's elements.
     fn no_path(&self, state: Member, field: &str) -> Result<Spot, OutOfMemory> {
         let whole = self.index.field_or_name(state, field);
-        let Some(mut items) = self.index.outline.items(whole) else {
+        let Some(mut items) = self.index.outline().items(whole) else {
             return Ok(whole);
         };
         while let Some(item) = items.next() {
@@ -200,6 +249,64 @@ impl DefinitionPlaces<'_, '_, '_> {
             }
         }
         Ok(whole)
+    }
+
+    /// The first `ErrorEquals` of the list's elements that is empty; or the list, or what else stands in the field.
+    fn empty_list(&self, state: Member, field: &str) -> Spot {
+        let whole = self.index.field_or_name(state, field);
+        let Some(mut items) = self.index.outline().items(whole) else {
+            return whole;
+        };
+        while let Some(item) = items.next() {
+            if let Some(errors) = self.index.member(item, "ErrorEquals") {
+                if self.has_at_most(errors.value, 0) {
+                    return errors.value;
+                }
+            }
+        }
+        whole
+    }
+
+    /// The first `ErrorEquals` of the list's elements with `States.ALL` in which it isn't alone, or behind which another
+    /// element stands; or the list.
+    fn all_among_others(&self, state: Member, field: &str) -> Result<Spot, OutOfMemory> {
+        let whole = self.index.field_or_name(state, field);
+        let Some(mut items) = self.index.outline().items(whole) else {
+            return Ok(whole);
+        };
+        let mut found: Option<Spot> = None;
+        while let Some(item) = items.next() {
+            if let Some(errors) = found {
+                return Ok(errors);
+            }
+            if let Some(errors) = self.index.member(item, "ErrorEquals") {
+                if self.has_text(errors.value, "States.ALL")? {
+                    found = Some(errors.value);
+                }
+            }
+        }
+        Ok(match found {
+            Some(errors) if !self.has_at_most(errors, 1) => errors,
+            _ => whole,
+        })
+    }
+
+    /// Whether the value is a list of so many elements or fewer.
+    fn has_at_most(&self, list: Spot, count: usize) -> bool {
+        self.index.outline().items(list).is_some() && self.index.element(list, count).is_none()
+    }
+
+    /// Whether one of the list's elements is that text.
+    fn has_text(&self, list: Spot, text: &str) -> Result<bool, OutOfMemory> {
+        let Some(mut items) = self.index.outline().items(list) else {
+            return Ok(false);
+        };
+        while let Some(item) = items.next() {
+            if self.says(item, text)? {
+                return Ok(true);
+            }
+        }
+        Ok(false)
     }
 
     /// Whether the value is a text that is no reference path.
@@ -213,19 +320,14 @@ impl DefinitionPlaces<'_, '_, '_> {
     }
 
     /// Where a finding is told: at the path that tells it, at the field's value, at the state's name.
-    fn of_finding(
-        &self,
-        name: &str,
-        field: Option<&str>,
-        path: &Option<MissingPath>,
-    ) -> Result<Spot, OutOfMemory> {
+    fn of_finding(&self, name: &str, field: Option<&str>, path: &Option<MissingPath>) -> Spot {
         let (Some(state), Some(field)) = (self.states.state(name), field) else {
-            return Ok(self.of_state(name));
+            return self.of_state(name);
         };
         let field = self.spelled(state, field);
         match path {
             Some(path) => self.of_path(state, field, path),
-            None => Ok(self.index.field_or_name(state, field)),
+            None => self.index.field_or_name(state, field),
         }
     }
 
@@ -241,53 +343,29 @@ impl DefinitionPlaces<'_, '_, '_> {
         }
     }
 
-    /// The path in the field's value: the field of the template in whose text it stands, the text that is it, or a deeper
-    /// field of that name.
-    fn of_path(&self, state: Member, field: &str, path: &MissingPath) -> Result<Spot, OutOfMemory> {
+    /// The first text in the field's value that says the path, in the field of a template whose name is told with it; or the
+    /// value.
+    fn of_path(&self, state: Member, field: &str, path: &MissingPath) -> Spot {
         let Some(found) = self.index.member(state.value, field) else {
-            return Ok(state.name);
+            return state.name;
         };
-        let name = format!(in self.alloc; "{}{SUFFIX}", path.name)?;
-        if let Some(member) = self.index.member(found.value, &name) {
-            if self.mentions(member.value, &path.text)? {
-                return Ok(member.value);
-            }
+        match self.paths.get(&found.value.token) {
+            Some(paths) => paths.first(&path.name, &path.text).unwrap_or(found.value),
+            None => found.value,
         }
-        if let Some(spot) = self.index.outline.string_in(found.value, &path.text) {
-            return Ok(spot);
-        }
-        if path.name.is_empty() {
-            return Ok(found.value);
-        }
-        Ok(
-            self.member_within(found.value, &name)?
-                .unwrap_or(found.value),
-        )
     }
 
-    /// The value of a member of that name in the value, at any depth.
-    fn member_within(&self, value: Spot, name: &str) -> Result<Option<Spot>, OutOfMemory> {
-        for value in &self.values_within(value)? {
-            if let Some(found) = self.index.member(*value, name) {
-                return Ok(Some(found.value));
-            }
-        }
-        Ok(None)
+    /// The paths in a value.
+    pub(crate) fn paths_in(&self, value: Spot) -> Result<Paths, OutOfMemory> {
+        Paths::read(self.alloc, self.index.outline(), self.text, value)
     }
 
-    /// The value and all that stand in it, at any depth.
-    fn values_within(&self, value: Spot) -> Result<Vec<Spot>, OutOfMemory> {
-        let mut values = Vec::new(self.alloc);
-        values.push(value)?;
-        // Each value has a byte of the text at least.
-        for at in 0..self.text.len() {
-            let Some(value) = values.get(at).copied() else {
-                break;
-            };
-            self.push_members(value, &mut values)?;
-            push_elements(self.index.outline, value, &mut values)?;
+    /// The field's value in which the path of a problem is looked for, if it tells one.
+    pub(crate) fn value_with_path(&self, problem: &Problem) -> Option<Spot> {
+        match &problem.kind {
+            Kind::Finding(_, Some(_)) => self.value_of(problem),
+            _ => None,
         }
-        Ok(values)
     }
 
     /// The first path or call in the template of a field that can't be read; or the field's value, or the state's name.
@@ -297,7 +375,13 @@ impl DefinitionPlaces<'_, '_, '_> {
         };
         let item = self.has_item(state, field)?;
         let mut first = None;
-        for object in &self.values_within(template.value)? {
+        let values = values_within(
+            self.alloc,
+            self.index.outline(),
+            self.text.len(),
+            template.value,
+        )?;
+        for object in &values {
             first = earlier(first, self.misspelled(*object, item)?);
         }
         Ok(first.unwrap_or(template.value))
@@ -320,14 +404,6 @@ impl DefinitionPlaces<'_, '_, '_> {
         Ok(said.as_deref() == Some(text))
     }
 
-    /// Whether that text stands in the one at the spot.
-    fn mentions(&self, value: Spot, text: &str) -> Result<bool, OutOfMemory> {
-        match self.said_at(value)? {
-            Some(said) => Ok(said.contains(text)),
-            None => Ok(false),
-        }
-    }
-
     /// What the text at the spot says, where one stands there.
     fn said_at(&self, value: Spot) -> Result<Option<String>, OutOfMemory> {
         text_at(self.alloc, text_from(self.text, self.index.offset(value)))
@@ -335,7 +411,7 @@ impl DefinitionPlaces<'_, '_, '_> {
 
     /// The first path or call of the object's own that can't be read.
     fn misspelled(&self, object: Spot, item: bool) -> Result<Option<Spot>, OutOfMemory> {
-        let Some(mut members) = self.index.outline.members(object) else {
+        let Some(mut members) = self.index.outline().members(object) else {
             return Ok(None);
         };
         while let Some((name, member)) = members.next() {
@@ -355,17 +431,6 @@ impl DefinitionPlaces<'_, '_, '_> {
             Some(said) => Ok(refusal_of(self.alloc, &said, item)?.is_none()),
             None => Ok(false),
         }
-    }
-
-    /// Puts the values of the members of an object.
-    fn push_members(&self, value: Spot, values: &mut Vec<Spot>) -> Result<(), OutOfMemory> {
-        let Some(mut members) = self.index.outline.members(value) else {
-            return Ok(());
-        };
-        while let Some((_, member)) = members.next() {
-            values.push(member.value)?;
-        }
-        Ok(())
     }
 
     /// The element of that index of the list in a state's field, the field's value, or the state's name.

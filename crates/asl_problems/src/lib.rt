@@ -11,13 +11,12 @@ mod declared_places;
 mod definition_places;
 mod files;
 mod findings;
-mod index;
+mod found;
 mod messages;
 mod nested;
 mod problems;
 mod sources;
 mod telling;
-mod templates;
 mod warnings;
 
 pub use complaints::problems_of_value;

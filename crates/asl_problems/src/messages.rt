@@ -1,10 +1,10 @@
 //! What is wrong, in a sentence without a period.
 use crate::breaks::{Break, Reason, break_of};
+use crate::found::At;
 use crate::problems::{Kind, Problem};
-use crate::sources::{string_at, text_at, text_from};
-use crate::templates::refusal_of;
 use asl_check::FindingFault;
 use asl_diagnostics::Rule;
+use asl_faults::{Words, refusal_of, string_at, text_at, text_from};
 use asl_machine::DefFault;
 use asl_places::{FaultKind, Wanted};
 use asl_records::RecordFault;
@@ -12,8 +12,24 @@ use asl_template::SpellingRefusal;
 use asl_tree::OutOfMemory;
 use std::alloc::Global;
 
-/// The sentence about a problem that stands at a byte of a text.
-pub(crate) fn message_of(
+/// The sentence about a problem that is found at a byte of a text: the words that were found for it, or what its kind says.
+pub(crate) fn message_at(
+    alloc: Global,
+    problem: &Problem,
+    text: &[u8],
+    at: At,
+) -> Result<String, OutOfMemory> {
+    match at.words {
+        Some(Words::Said(sentence)) => Ok(sentence),
+        Some(Words::OfText(isnt)) => {
+            about_string(alloc, problem.rule, text_from(text, at.byte), isnt)
+        }
+        None => message_of(alloc, problem, text, at.byte),
+    }
+}
+
+/// The sentence about a problem of its kind that stands at a byte of a text.
+fn message_of(
     alloc: Global,
     problem: &Problem,
     text: &[u8],

@@ -1,6 +1,6 @@
-//! The two texts with what is found in them.
+//! The outlines of the two texts.
 use asl_places::{Outline, OutlineRefusal};
-use asl_tree::{OutOfMemory, Tree, TreeRefusal, read};
+use asl_tree::OutOfMemory;
 use json::Scratch;
 use std::alloc::Global;
 
@@ -26,40 +26,5 @@ impl<'a> Outlined<'a> {
             Err(OutlineRefusal::NotJson | OutlineRefusal::TooLong) => Ok(Outlined::None),
             Err(OutlineRefusal::OutOfMemory) => Err(OutOfMemory),
         }
-    }
-}
-
-/// The text from a byte on.
-pub(crate) fn text_from(text: &[u8], offset: usize) -> &[u8] {
-    &text[offset.min(text.len())..]
-}
-
-/// The JSON string with which the text begins, with its quotes, where it begins with one.
-pub(crate) fn string_at(text: &[u8]) -> Option<&[u8]> {
-    if text.first() != Some(&b'"') {
-        return None;
-    }
-    let mut is_escaped = false;
-    for at in 1..text.len() {
-        if is_escaped {
-            is_escaped = false;
-        } else if text[at] == b'\\' {
-            is_escaped = true;
-        } else if text[at] == b'"' {
-            return Some(&text[..=at]);
-        }
-    }
-    None
-}
-
-/// What that string says.
-pub(crate) fn text_at(alloc: Global, text: &[u8]) -> Result<Option<String>, OutOfMemory> {
-    let Some(string) = string_at(text) else {
-        return Ok(None);
-    };
-    match read(alloc, string) {
-        Ok(Tree::Text(said)) => Ok(Some(said)),
-        Err(TreeRefusal::OutOfMemory) => Err(OutOfMemory),
-        _ => Ok(None),
     }
 }

@@ -6,15 +6,18 @@ use crate::breaks::{break_of, first_fraction};
 use crate::declared_places::spot_in_declared;
 use crate::definition_places::DefinitionPlaces;
 use crate::files::File;
-use crate::index::Index;
-use crate::messages::message_of;
+use crate::found::At;
+use crate::messages::message_at;
 use crate::problems::{Kind, Problem, Which};
 use crate::sources::Outlined;
 use asl_diagnostics::Diagnostic;
-use asl_places::{Places, States};
+use asl_faults::{Index, Paths, fault_of_shape};
+use asl_places::{Places, Spot, States};
+use asl_records::RecordFault;
 use asl_tree::OutOfMemory;
 use json::Scratch;
 use std::alloc::Global;
+use std::collections::BTreeMap;
 
 /// The problems as diagnostics, in their order, each with its place in one of the two texts and its message. The texts are
 /// read for places only where there is something to tell. Refuses only where an allocation was refused.
@@ -34,12 +37,14 @@ pub fn diagnostics_of<'f>(
     let mut scratch = Scratch::new(alloc);
     let outlined = Outlined::read(alloc, definition.text, &mut scratch)?;
     let states = states_of(alloc, &outlined)?;
-    let subject = Subject {
+    let mut subject = Subject {
         file: definition,
         places: Places::of(alloc, definition.text)?,
         index: index_of(alloc, &outlined, definition.text)?,
         states: &states,
+        paths: BTreeMap::new(alloc),
     };
+    subject.paths = paths_of(alloc, &subject, &problems)?;
     tell_in(alloc, &subject, declared, problems)
 }
 
@@ -52,6 +57,21 @@ struct Subject<'s, 'f, 'a> {
     index: Option<Index<'s, 'a>>,
     /// The states of a definition that is JSON.
     states: &'s Option<States<'a>>,
+    /// The paths in the values of fields in which problems tell some, by the token with which such a value begins.
+    paths: BTreeMap<usize, Paths>,
+}
+
+impl Subject<'_, '_, '_> {
+    /// What is looked for places in, where it is a definition that is JSON.
+    fn definition(&self, alloc: Global) -> Option<DefinitionPlaces<'_, '_, '_>> {
+        Some(DefinitionPlaces {
+            alloc,
+            text: self.file.text,
+            index: self.index.as_ref()?,
+            states: self.states.as_ref()?,
+            paths: &self.paths,
+        })
+    }
 }
 
 /// The problems as diagnostics, in their order, with what is found in the definition.
@@ -75,6 +95,7 @@ fn tell_in(
         places: Places::of(alloc, text)?,
         index: index_of(alloc, &outlined, text)?,
         states: &None,
+        paths: BTreeMap::new(alloc),
     };
     tell_each(alloc, definition, &subject, problems)
 }
@@ -109,6 +130,26 @@ fn index_of<'s, 'a>(
     }
 }
 
+/// The paths in the values of the definition's fields in which problems tell some.
+fn paths_of(
+    alloc: Global,
+    definition: &Subject<'_, '_, '_>,
+    problems: &[Problem],
+) -> Result<BTreeMap<usize, Paths>, OutOfMemory> {
+    let mut paths = BTreeMap::new(alloc);
+    let Some(places) = definition.definition(alloc) else {
+        return Ok(paths);
+    };
+    for problem in problems {
+        if let Some(value) = places.value_with_path(problem) {
+            if !paths.contains_key(&value.token) {
+                drop(paths.insert(value.token, places.paths_in(value)?)?);
+            }
+        }
+    }
+    Ok(paths)
+}
+
 /// The problems as diagnostics, in their order, with what is found in both texts.
 fn tell_each(
     alloc: Global,
@@ -138,67 +179,78 @@ fn tell(
 {
     match problem.which() {
         Which::Definition => {
-            let offset = byte_in_definition(alloc, definition, &problem)?;
-            tell_at(alloc, definition, offset, problem)
+            let at = find_in_definition(alloc, definition, &problem)?;
+            tell_at(alloc, definition, at, problem)
         }
         Which::Declared => {
-            let offset = byte_in_declared(alloc, declared, &problem)?;
-            tell_at(alloc, declared, offset, problem)
+            let at = find_in_declared(alloc, declared, &problem)?;
+            tell_at(alloc, declared, at, problem)
         }
     }
 }
 
-/// The byte of the definition at which a problem stands.
-fn byte_in_definition(
+/// Where a problem stands in the definition.
+fn find_in_definition(
     alloc: Global,
     definition: &Subject<'_, '_, '_>,
     problem: &Problem,
-) -> Result<usize, OutOfMemory> {
-    let text = definition.file.text;
-    match (&problem.kind, &definition.index, definition.states) {
-        (Kind::NotJson(_), _, _) => Ok(break_of(alloc, text)?.byte),
-        (_, Some(index), Some(states)) => {
-            let places = DefinitionPlaces {
-                alloc,
-                text,
-                index,
-                states,
-            };
-            places.byte_of(problem)
-        }
-        _ => Ok(0),
+) -> Result<At, OutOfMemory> {
+    if let Kind::NotJson(_) = problem.kind {
+        return Ok(At::byte(break_of(alloc, definition.file.text)?.byte));
+    }
+    match definition.definition(alloc) {
+        Some(places) => places.find(problem),
+        None => Ok(At::byte(0)),
     }
 }
 
-/// The byte of the declared shapes at which a problem stands.
-fn byte_in_declared(
+/// Where a problem stands in the declared shapes.
+fn find_in_declared(
     alloc: Global,
     declared: &Subject<'_, '_, '_>,
     problem: &Problem,
-) -> Result<usize, OutOfMemory> {
+) -> Result<At, OutOfMemory> {
     let text = declared.file.text;
     match (&problem.kind, &declared.index) {
-        (Kind::NotJson(_), _) => Ok(break_of(alloc, text)?.byte),
-        (Kind::NotWhole, _) => first_fraction(alloc, text),
-        (_, Some(index)) => Ok(index.offset(spot_in_declared(index, problem))),
-        (_, None) => Ok(0),
+        (Kind::NotJson(_), _) => Ok(At::byte(break_of(alloc, text)?.byte)),
+        (Kind::NotWhole, _) => Ok(At::byte(first_fraction(alloc, text)?)),
+        (Kind::Record(RecordFault::BadShape(_)), Some(index)) => {
+            find_shape(alloc, index, text, spot_in_declared(index, problem))
+        }
+        (_, Some(index)) => Ok(At::byte(index.offset(spot_in_declared(index, problem)))),
+        (_, None) => Ok(At::byte(0)),
     }
 }
 
-/// A problem that stands at a byte of a file as a diagnostic.
+/// Where something is wrong with a shape in the declared shapes.
+fn find_shape(
+    alloc: Global,
+    index: &Index<'_, '_>,
+    text: &[u8],
+    spot: Spot,
+) -> Result<At, OutOfMemory> {
+    let found = fault_of_shape(alloc, index, text, spot)?;
+    Ok(At {
+        byte: index.offset(found.spot),
+        words: found.words,
+    })
+}
+
+/// A problem that is found in a file as a diagnostic.
 fn tell_at(
     alloc: Global,
     subject: &Subject<'_, '_, '_>,
-    offset: usize,
+    at: At,
     problem: Problem,
 ) -> Result<Diagnostic, OutOfMemory>
     ensures { IfOk result (λ diagnostic. told_of diagnostic ≡ told_by problem) }
 {
-    let message = message_of(alloc, &problem, subject.file.text, offset)?;
+    let place = subject.places.place_at(at.byte);
+    let message = message_at(alloc, &problem, subject.file.text, at)?;
     let path = String::from_str(alloc, subject.file.path)?;
     Ok(Diagnostic {
         file: path,
-        place: subject.places.place_at(offset),
+        place,
         severity: problem.severity,
         rule: problem.rule,
         state: problem.state,

@@ -5,11 +5,11 @@ use std::alloc::Global;
 use std::collections::BTreeMap;
 
 /// What the name of a field ends in whose value is a path or a call.
-pub(crate) const SUFFIX: &str = ".$";
+pub const SUFFIX: &str = ".$";
 
 /// Why the text can't be the path or the call of a field in a template, where it can't. `item` says whether paths to a
 /// Map's item are allowed.
-pub(crate) fn refusal_of(
+pub fn refusal_of(
     alloc: Global,
     text: &str,
     item: bool,

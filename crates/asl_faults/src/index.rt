@@ -9,8 +9,8 @@ const LARGE: usize = 32;
 
 /// An outlined text, with the members of its large objects by name and the elements of its large lists in turn.
 #[derive(Drop)]
-pub(crate) struct Index<'s, 'a> {
-    pub(crate) outline: &'s Outline<'a>,
+pub struct Index<'s, 'a> {
+    outline: &'s Outline<'a>,
     /// By the token with which the object begins.
     objects: BTreeMap<usize, BTreeMap<&'a str, Member>>,
     /// By the token with which the list begins.
@@ -26,7 +26,7 @@ struct LargeList<'a> {
 
 impl<'s, 'a> Index<'s, 'a> {
     /// The index of an outlined text of so many bytes. Refuses only where an allocation was refused.
-    pub(crate) fn read(
+    pub fn read(
         alloc: Global,
         outline: &'s Outline<'a>,
         bytes: usize,
@@ -80,18 +80,23 @@ impl<'s, 'a> Index<'s, 'a> {
         true
     }
 
+    /// The outline that it is of.
+    pub fn outline(&self) -> &'s Outline<'a> {
+        self.outline
+    }
+
     /// The text's own value.
-    pub(crate) fn root(&self) -> Spot {
+    pub fn root(&self) -> Spot {
         self.outline.root()
     }
 
     /// The first byte of a value or a name.
-    pub(crate) fn offset(&self, spot: Spot) -> usize {
+    pub fn offset(&self, spot: Spot) -> usize {
         self.outline.offset(spot)
     }
 
     /// The member of that name of the object at the spot; of a repeated name the last.
-    pub(crate) fn member(&self, object: Spot, name: &str) -> Option<Member> {
+    pub fn member(&self, object: Spot, name: &str) -> Option<Member> {
         match self.objects.get(&object.token) {
             Some(members) => members.get(name).copied(),
             None => self.outline.member(object, name),
@@ -99,7 +104,7 @@ impl<'s, 'a> Index<'s, 'a> {
     }
 
     /// The element at that index of the list at the spot, counted from 0.
-    pub(crate) fn element(&self, list: Spot, index: usize) -> Option<Spot> {
+    pub fn element(&self, list: Spot, index: usize) -> Option<Spot> {
         match self.lists.get(&list.token) {
             Some(list) => list.elements.get(index).copied(),
             None => self.outline.element(list, index),
@@ -107,7 +112,7 @@ impl<'s, 'a> Index<'s, 'a> {
     }
 
     /// The value of that name in the first object of a list that has it, or in the value itself, where it is no list.
-    pub(crate) fn first_with(&self, whole: Spot, name: &str) -> Option<Spot> {
+    pub fn first_with(&self, whole: Spot, name: &str) -> Option<Spot> {
         if let Some(list) = self.lists.get(&whole.token) {
             return list.values.get(name).copied();
         }
@@ -123,7 +128,7 @@ impl<'s, 'a> Index<'s, 'a> {
     }
 
     /// The first object of a list that has no member of that name, or the value itself, where it is such an object.
-    pub(crate) fn first_without(&self, whole: Spot, name: &str) -> Option<Spot> {
+    pub fn first_without(&self, whole: Spot, name: &str) -> Option<Spot> {
         let Some(mut elements) = self.outline.items(whole) else {
             return self.lacks(whole, name).then_some(whole);
         };
@@ -141,7 +146,7 @@ impl<'s, 'a> Index<'s, 'a> {
     }
 
     /// The value of a state's field, or the state's name where the state has no such field.
-    pub(crate) fn field_or_name(&self, state: Member, field: &str) -> Spot {
+    pub fn field_or_name(&self, state: Member, field: &str) -> Spot {
         match self.objects.get(&state.value.token) {
             Some(members) => members.get(field).map_or(state.name, |found| found.value),
             None => self.outline.field_or_name(state, field),
@@ -177,6 +182,21 @@ fn insert_members<'a>(
     };
     while let Some((name, member)) = members.next() {
         drop(values.insert(name, member.value)?);
+    }
+    Ok(())
+}
+
+/// Puts the values of the members of the object at the spot behind the others. Any other value has none.
+pub(crate) fn push_members(
+    outline: &Outline<'_>,
+    object: Spot,
+    spots: &mut Vec<Spot>,
+) -> Result<(), OutOfMemory> {
+    let Some(mut members) = outline.members(object) else {
+        return Ok(());
+    };
+    while let Some((_, member)) = members.next() {
+        spots.push(member.value)?;
     }
     Ok(())
 }

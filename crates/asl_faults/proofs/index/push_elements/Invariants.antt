@@ -1,5 +1,5 @@
 use Rattle.std.proofs.Common.{◌-◌, length}
-use Rattle.asl_problems.proofs.index.push_elements.Given as goal
+use Rattle.asl_faults.proofs.index.push_elements.Given as goal
 
 abbrev pub decreases-loop-element : goal.decreases-loop-element
 decreases-loop-element l = length l.elements.0 - l.elements.1

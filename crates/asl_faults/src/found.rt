@@ -1,0 +1,41 @@
+//! Where something is wrong, and what is said of it there.
+use asl_places::Spot;
+
+/// Where something is wrong, and the words about it, where more can be said than that something is.
+#[derive(Drop)]
+pub struct Found {
+    pub spot: Spot,
+    pub words: Option<Words>,
+}
+
+/// What is said of a place.
+#[derive(Drop)]
+pub enum Words {
+    /// A sentence without a period.
+    Said(String),
+    /// What the text that stands there isn't, or has and may not.
+    OfText(&'static str),
+}
+
+impl Found {
+    /// Something that is wrong there.
+    pub fn at(spot: Spot) -> Found {
+        Found { spot, words: None }
+    }
+
+    /// Something that is wrong there, of which that is said.
+    pub(crate) fn said(spot: Spot, sentence: String) -> Found {
+        Found {
+            spot,
+            words: Some(Words::Said(sentence)),
+        }
+    }
+
+    /// Something that is wrong with the text that stands there.
+    pub(crate) fn of_text(spot: Spot, isnt: &'static str) -> Found {
+        Found {
+            spot,
+            words: Some(Words::OfText(isnt)),
+        }
+    }
+}

@@ -1,0 +1,230 @@
+//! What is wrong with a choice rule that is refused, and where.
+use crate::found::Found;
+use crate::index::Index;
+use crate::placed::{MOST_LEVELS, Placed, object_of, tree_at};
+use asl_choice::{RuleRefusal, from_tree};
+use asl_places::Spot;
+use asl_tree::{OutOfMemory, Tree, copy};
+use std::alloc::Global;
+use std::collections::BTreeMap;
+
+/// What is wrong with the rule of a Choice at a spot of a text, where it is refused: the first rule in it that is wrong by
+/// itself. Refuses only where an allocation was refused.
+pub fn fault_of_rule(
+    alloc: Global,
+    index: &Index<'_, '_>,
+    text: &[u8],
+    spot: Spot,
+) -> Result<Option<Found>, OutOfMemory> {
+    match tree_at(alloc, index, text, spot)? {
+        Some(tree) => fault_within(alloc, index, Placed { spot, tree: &tree }),
+        None => Ok(None),
+    }
+}
+
+/// What is wrong with a rule, where it is refused.
+fn fault_within(
+    alloc: Global,
+    index: &Index<'_, '_>,
+    rule: Placed<'_>,
+) -> Result<Option<Found>, OutOfMemory> {
+    if refusal_of(alloc, rule.tree)?.is_none() {
+        return Ok(None);
+    }
+    if rule.fields().is_some() && rule.member(index, "Next").is_none() {
+        let sentence = "The field `Next` is required, and it is absent";
+        return Ok(Some(Found::said(rule.spot, String::from_str(alloc, sentence)?)));
+    }
+    if let Some(refusal) = refusal_of(alloc, &outline_of(alloc, rule.tree)?)? {
+        return Ok(Some(fault_at(alloc, index, rule, refusal)?));
+    }
+    let mut at = rule;
+    for _level in 0..MOST_LEVELS {
+        let Some(inner) = first_refused(alloc, index, at)? else {
+            break;
+        };
+        if let Some(refusal) = refusal_inside(alloc, outline_of(alloc, inner.tree)?)? {
+            return Ok(Some(fault_at(alloc, index, inner, refusal)?));
+        }
+        at = inner;
+    }
+    Ok(Some(Found::at(at.spot)))
+}
+
+/// Why a tree is no rule of a Choice, where it is none.
+fn refusal_of(alloc: Global, tree: &Tree) -> Result<Option<RuleRefusal>, OutOfMemory> {
+    match from_tree(alloc, tree) {
+        Ok(_) => Ok(None),
+        Err(RuleRefusal::OutOfMemory) => Err(OutOfMemory),
+        Err(refusal) => Ok(Some(refusal)),
+    }
+}
+
+/// Why a tree is no rule within a rule, where it is none.
+fn refusal_inside(alloc: Global, rule: Tree) -> Result<Option<RuleRefusal>, OutOfMemory> {
+    let mut fields = Vec::new(alloc);
+    fields.push(("Next", Tree::Text(String::from_str(alloc, "Next")?)))?;
+    fields.push(("Not", rule))?;
+    refusal_of(alloc, &object_of(alloc, fields)?)
+}
+
+/// The rule with a sound one in place of each rule in it.
+fn outline_of(alloc: Global, rule: &Tree) -> Result<Tree, OutOfMemory> {
+    let Tree::Object(fields) = rule else {
+        return copy(alloc, rule);
+    };
+    let mut outline = BTreeMap::new(alloc);
+    for (name, value) in fields.iter() {
+        let key = name.clone()?;
+        drop(outline.insert(key, outline_of_field(alloc, name, value)?)?);
+    }
+    Ok(Tree::Object(outline))
+}
+
+/// The value of a rule's field with a sound rule in place of each rule in it.
+fn outline_of_field(alloc: Global, name: &str, value: &Tree) -> Result<Tree, OutOfMemory> {
+    match name {
+        "Not" => test_of(alloc, "IsNull", Tree::Bool(true)),
+        "And" | "Or" => outline_of_list(alloc, value),
+        _ => copy(alloc, value),
+    }
+}
+
+/// The list with a sound rule in place of each element.
+fn outline_of_list(alloc: Global, value: &Tree) -> Result<Tree, OutOfMemory> {
+    let Tree::List(rules) = value else {
+        return copy(alloc, value);
+    };
+    let mut outline = Vec::new(alloc);
+    for _rule in rules {
+        outline.push(test_of(alloc, "IsNull", Tree::Bool(true))?)?;
+    }
+    Ok(Tree::List(outline))
+}
+
+/// A rule within a rule, by which an operator tests the whole input.
+fn test_of(alloc: Global, operator: &str, value: Tree) -> Result<Tree, OutOfMemory> {
+    let mut fields = Vec::new(alloc);
+    fields.push(("Variable", Tree::Text(String::from_str(alloc, "$")?)))?;
+    fields.push((operator, value))?;
+    object_of(alloc, fields)
+}
+
+/// The first rule in a rule that is refused.
+fn first_refused<'t>(
+    alloc: Global,
+    index: &Index<'_, '_>,
+    rule: Placed<'t>,
+) -> Result<Option<Placed<'t>>, OutOfMemory> {
+    for part in rules_in(alloc, index, rule)? {
+        if refusal_inside(alloc, copy(alloc, part.tree)?)?.is_some() {
+            return Ok(Some(part));
+        }
+    }
+    Ok(None)
+}
+
+/// The rules in a rule.
+fn rules_in<'t>(
+    alloc: Global,
+    index: &Index<'_, '_>,
+    rule: Placed<'t>,
+) -> Result<Vec<Placed<'t>>, OutOfMemory> {
+    let mut parts = Vec::new(alloc);
+    for name in ["And", "Or"] {
+        if let Some(rules) = rule.member(index, name) {
+            rules.push_elements(index, &mut parts)?;
+        }
+    }
+    if let Some(negated) = rule.member(index, "Not") {
+        parts.push(negated)?;
+    }
+    Ok(parts)
+}
+
+/// What is wrong with a rule by itself, which is refused so.
+fn fault_at(
+    alloc: Global,
+    index: &Index<'_, '_>,
+    rule: Placed<'_>,
+    refusal: RuleRefusal,
+) -> Result<Found, OutOfMemory> {
+    let Some(fields) = rule.fields() else {
+        return Ok(Found::at(rule.spot));
+    };
+    for (name, value) in fields.iter() {
+        if let Some(said) = fault_of_field(alloc, name, value, refusal)? {
+            return Ok(found_in(index, rule, name, said));
+        }
+    }
+    Ok(Found::at(rule.spot))
+}
+
+/// What is said of a field of a rule, at its name or at its value.
+#[derive(Drop)]
+enum Told {
+    Name(&'static str),
+    Text(&'static str),
+    Value(String),
+}
+
+/// Where a field of a rule stands, with what is said of it.
+fn found_in(index: &Index<'_, '_>, rule: Placed<'_>, name: &str, told: Told) -> Found {
+    match (index.member(rule.spot, name), told) {
+        (Some(member), Told::Name(isnt)) => Found::of_text(member.name, isnt),
+        (Some(member), Told::Text(isnt)) => Found::of_text(member.value, isnt),
+        (Some(member), Told::Value(sentence)) => Found::said(member.value, sentence),
+        (None, _) => Found::at(rule.spot),
+    }
+}
+
+/// What is wrong with a field of a rule that is refused so, if it is the one.
+fn fault_of_field(
+    alloc: Global,
+    name: &str,
+    value: &Tree,
+    refusal: RuleRefusal,
+) -> Result<Option<Told>, OutOfMemory> {
+    match (name, value) {
+        ("Next", _) => match refusal {
+            RuleRefusal::NextInside => {
+                let sentence = "A rule within a rule has no `Next`";
+                Ok(Some(Told::Value(String::from_str(alloc, sentence)?)))
+            }
+            _ => Ok(None),
+        },
+        ("And" | "Or", Tree::List(rules)) if rules.is_empty() => {
+            Ok(Some(Told::Value(format!(in alloc; "The list of `{name}` is empty")?)))
+        }
+        ("Variable", Tree::Text(_)) => fault_of_variable(alloc, value),
+        ("And" | "Or" | "Not" | "Variable" | "Comment", _) => Ok(None),
+        _ => fault_of_operator(alloc, name, value),
+    }
+}
+
+/// What is wrong with the path of a rule, if anything is.
+fn fault_of_variable(alloc: Global, path: &Tree) -> Result<Option<Told>, OutOfMemory> {
+    let mut fields = Vec::new(alloc);
+    fields.push(("Variable", copy(alloc, path)?))?;
+    fields.push(("IsNull", Tree::Bool(true)))?;
+    let refusal = refusal_inside(alloc, object_of(alloc, fields)?)?;
+    Ok(refusal.map(|_| Told::Text("is no reference path")))
+}
+
+/// What is wrong with an operator or with its value, if anything is.
+fn fault_of_operator(alloc: Global, name: &str, value: &Tree) -> Result<Option<Told>, OutOfMemory> {
+    let Some(refusal) = refusal_inside(alloc, test_of(alloc, name, copy(alloc, value)?)?)? else {
+        return Ok(None);
+    };
+    Ok(match refusal {
+        RuleRefusal::UnknownOperator => Some(Told::Name("is no operator of rules that is read")),
+        RuleRefusal::BadPath => Some(Told::Text("is no reference path")),
+        RuleRefusal::BadPattern => Some(Told::Text(
+            "has a backslash that stands before neither a star nor a backslash",
+        )),
+        RuleRefusal::BadOperand => Some(Told::Value(format!(in alloc;
+            "The value of `{name}` is of another kind than the operator wants"
+        )?)),
+        _ => None,
+    })
+}
