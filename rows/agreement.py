@@ -1,5 +1,6 @@
 #!/usr/bin/env python3
-"""Holds what `asl lint` tells against what `asl verify` says, its formats against each other, and `asl explain` against both.
+"""Holds what `asl lint` tells against what `asl verify` says, its formats against each other, `asl explain` against both, and
+places and pictures against the texts.
 
 usage: python3 rows/agreement.py [--machines N] [PROGRAM ..]
 
@@ -12,7 +13,12 @@ given to `asl verify`:
 - a log in SARIF has what the standard wants (tools/sarif);
 - the objects in JSON have the fields that docs/REFERENCE.md names, those that it says are always there in each;
 - text, JSON, SARIF and GitHub's commands tell the same diagnostics, in one order;
-- the problem matcher takes each line of the text apart as the JSON has it.
+- the problem matcher takes each line of the text apart as the JSON has it;
+- what is told stands in the state and the field that it names, and a path at a text that says it (rows/placing.py).
+
+Each is given to `asl graph`, without and with its declared shapes, for Mermaid and for dot: where it draws a picture, that
+shows the definition's states, scopes and lines, and the states that lint tells an error of or to which no data comes
+(rows/pictures.py).
 
 Each is given to `asl explain`, too:
 
@@ -21,8 +27,8 @@ Each is given to `asl explain`, too:
 - where verify says yes, the input and the output that `asl explain --state` tells of the first states are those of the
   certificate that `asl infer` prints, in short notation (rows/notation.py).
 
-The last line is 'N passed, M failed', in which N counts the definitions, twice, and the checks of formats; the exit status is 0
-where nothing failed and something passed.
+The last line is 'N passed, M failed', in which N counts the definitions, four times, and the checks of formats; the exit status
+is 0 where nothing failed and something passed.
 """
 
 import argparse
@@ -38,6 +44,8 @@ import tempfile
 from machines import Maker
 from made import made
 from notation import noted
+from pictures import drawing_of, fault_between, of_dot, of_mermaid
+from placing import fault_of_place
 from run import BUILDS, ROWS, TOP, cases_of
 
 # Longer texts of cases are left out: they try limits.
@@ -178,14 +186,58 @@ def fault_of_explained(program, folder, number, errors):
 
 def look_at_explanations(program, folder, diagnostics, tally):
     """Compares what is explained of each definition with what else is told of it."""
-    errors = {number: [] for number in range(len(folder.names))}
-    for it in diagnostics:
-        if it["severity"] == "error":
-            errors[int(it["file"].split("/")[-1].partition(".")[0])].append(it)
+    errors = numbered([it for it in diagnostics if it["severity"] == "error"], len(folder.names))
     with concurrent.futures.ThreadPoolExecutor(len(os.sched_getaffinity(0))) as workers:
         faults = workers.map(lambda it: fault_of_explained(program, folder, it, errors[it]), errors)
         for number, fault in enumerate(faults):
             tally.look(f"explanations of {folder.names[number]}", fault)
+
+
+def numbered(diagnostics, count):
+    """The diagnostics of each definition and its declared shapes, by its number."""
+    each = {number: [] for number in range(count)}
+    for it in diagnostics:
+        each[int(it["file"].split("/")[-1].partition(".")[0])].append(it)
+    return each
+
+
+def look_at_places(folder, diagnostics, tally):
+    """Looks whether what is told of each definition and its declared shapes stands where it should."""
+    for number, told in numbered(diagnostics, len(folder.names)).items():
+        placed = [it for it in told if it["rule"] != "NotJson"]
+        faults = (fault_of_place((folder.path / it["file"]).read_bytes().decode(), it) for it in placed)
+        tally.look(f"places in {folder.names[number]}", next((it for it in faults if it), None))
+
+
+def fault_of_picture(program, folder, number, told, *words):
+    """Where the picture of a definition shows something else than the definition has, or None."""
+    status, output, _ = folder.run(program, "graph", folder.words(number)[0], *words)
+    if status:
+        return None
+    errors = [it["state"] for it in told if it["severity"] == "error" and "state" in it]
+    warned = [it["state"] for it in told if it["rule"] in ("UnreachableState", "NoDataReaches")]
+    known = (errors, warned) if "--declared" in words else ()
+    text = (folder.path / folder.words(number)[0]).read_bytes()
+    picture = of_dot(output) if "dot" in words else of_mermaid(output)
+    fault = fault_between(picture, drawing_of(text, *known))
+    return f"{' '.join(words)}: {fault}" if fault else None
+
+
+def fault_of_pictures(program, folder, number, told):
+    """The same of each picture of a definition."""
+    declared = ["--declared", folder.words(number)[1]]
+    ways = [[*shapes, "--format", it] for shapes in ([], declared) for it in ("mermaid", "dot")]
+    faults = (fault_of_picture(program, folder, number, told, *it) for it in ways)
+    return next((it for it in faults if it), None)
+
+
+def look_at_pictures(program, folder, diagnostics, tally):
+    """Compares the pictures of each definition with it."""
+    told = numbered(diagnostics, len(folder.names))
+    with concurrent.futures.ThreadPoolExecutor(len(os.sched_getaffinity(0))) as workers:
+        faults = workers.map(lambda it: fault_of_pictures(program, folder, it, told[it]), told)
+        for number, fault in enumerate(faults):
+            tally.look(f"pictures of {folder.names[number]}", fault)
 
 
 def documented_fields():
@@ -271,6 +323,8 @@ def look_at(program, folder, tally):
     print(counts.strip().split("\n")[-1], flush=True)
     look_at_verdicts(program.resolve(), folder, diagnostics, tally)
     look_at_formats(program.resolve(), folder, diagnostics, tally)
+    look_at_places(folder, diagnostics, tally)
+    look_at_pictures(program.resolve(), folder, diagnostics, tally)
     look_at_explanations(program.resolve(), folder, diagnostics, tally)
 
 
