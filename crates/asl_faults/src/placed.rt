@@ -6,9 +6,6 @@ use asl_tree::{OutOfMemory, Tree, TreeRefusal, read};
 use std::alloc::Global;
 use std::collections::BTreeMap;
 
-/// How many levels of values a text has at most.
-pub(crate) const MOST_LEVELS: usize = 127;
-
 /// A value, and where it stands.
 #[derive(Clone, Copy)]
 pub(crate) struct Placed<'t> {

@@ -1,54 +1,68 @@
 //! What is wrong with a choice rule that is refused, and where.
 use crate::found::Found;
 use crate::index::Index;
-use crate::placed::{MOST_LEVELS, Placed, object_of, tree_at};
+use crate::placed::{Placed, object_of, tree_at};
 use asl_choice::{RuleRefusal, from_tree};
 use asl_places::Spot;
 use asl_tree::{OutOfMemory, Tree, copy};
 use std::alloc::Global;
 use std::collections::BTreeMap;
 
-/// What is wrong with the rule of a Choice at a spot of a text, where it is refused: the first rule in it that is wrong by
-/// itself. Refuses only where an allocation was refused.
+/// What is wrong with the rule of a Choice at a spot of a text, where it is refused: with itself, or else with one in it, at
+/// the least depth. Refuses only where an allocation was refused.
 pub fn fault_of_rule(
     alloc: Global,
     index: &Index<'_, '_>,
     text: &[u8],
     spot: Spot,
 ) -> Result<Option<Found>, OutOfMemory> {
-    match tree_at(alloc, index, text, spot)? {
-        Some(tree) => fault_within(alloc, index, Placed { spot, tree: &tree }),
-        None => Ok(None),
+    let Some(tree) = tree_at(alloc, index, text, spot)? else {
+        return Ok(None);
+    };
+    let rule = Placed { spot, tree: &tree };
+    if refusal_of(alloc, &tree)?.is_none() {
+        return Ok(None);
     }
+    if let Some(refusal) = refusal_of(alloc, &outline_of(alloc, &tree)?)? {
+        return Ok(Some(fault_at_top(alloc, index, rule, refusal)?));
+    }
+    Ok(Some(fault_inside(alloc, index, text.len(), rule)?))
 }
 
-/// What is wrong with a rule, where it is refused.
-fn fault_within(
+/// What is wrong with a rule that is refused so by itself.
+fn fault_at_top(
     alloc: Global,
     index: &Index<'_, '_>,
     rule: Placed<'_>,
-) -> Result<Option<Found>, OutOfMemory> {
-    if refusal_of(alloc, rule.tree)?.is_none() {
-        return Ok(None);
-    }
+    refusal: RuleRefusal,
+) -> Result<Found, OutOfMemory> {
     if rule.fields().is_some() && rule.member(index, "Next").is_none() {
         let sentence = "The field `Next` is required, and it is absent";
-        return Ok(Some(Found::said(rule.spot, String::from_str(alloc, sentence)?)));
+        return Ok(Found::said(rule.spot, String::from_str(alloc, sentence)?));
     }
-    if let Some(refusal) = refusal_of(alloc, &outline_of(alloc, rule.tree)?)? {
-        return Ok(Some(fault_at(alloc, index, rule, refusal)?));
-    }
-    let mut at = rule;
-    for _level in 0..MOST_LEVELS {
-        let Some(inner) = first_refused(alloc, index, at)? else {
+    fault_at(alloc, index, rule, refusal)
+}
+
+/// What is wrong with a rule inside of a rule, of which so many bytes are written at most.
+fn fault_inside(
+    alloc: Global,
+    index: &Index<'_, '_>,
+    bytes: usize,
+    rule: Placed<'_>,
+) -> Result<Found, OutOfMemory> {
+    let mut rules = Vec::new(alloc);
+    push_rules_in(index, rule, &mut rules)?;
+    // Each rule has a byte at least.
+    for at in 0..bytes {
+        let Some(inner) = rules.get(at).copied() else {
             break;
         };
         if let Some(refusal) = refusal_inside(alloc, outline_of(alloc, inner.tree)?)? {
-            return Ok(Some(fault_at(alloc, index, inner, refusal)?));
+            return fault_at(alloc, index, inner, refusal);
         }
-        at = inner;
+        push_rules_in(index, inner, &mut rules)?;
     }
-    Ok(Some(Found::at(at.spot)))
+    Ok(Found::at(rule.spot))
 }
 
 /// Why a tree is no rule of a Choice, where it is none.
@@ -110,36 +124,21 @@ fn test_of(alloc: Global, operator: &str, value: Tree) -> Result<Tree, OutOfMemo
     object_of(alloc, fields)
 }
 
-/// The first rule in a rule that is refused.
-fn first_refused<'t>(
-    alloc: Global,
+/// Puts the rules in a rule behind the others.
+fn push_rules_in<'t>(
     index: &Index<'_, '_>,
     rule: Placed<'t>,
-) -> Result<Option<Placed<'t>>, OutOfMemory> {
-    for part in rules_in(alloc, index, rule)? {
-        if refusal_inside(alloc, copy(alloc, part.tree)?)?.is_some() {
-            return Ok(Some(part));
-        }
-    }
-    Ok(None)
-}
-
-/// The rules in a rule.
-fn rules_in<'t>(
-    alloc: Global,
-    index: &Index<'_, '_>,
-    rule: Placed<'t>,
-) -> Result<Vec<Placed<'t>>, OutOfMemory> {
-    let mut parts = Vec::new(alloc);
+    rules: &mut Vec<Placed<'t>>,
+) -> Result<(), OutOfMemory> {
     for name in ["And", "Or"] {
-        if let Some(rules) = rule.member(index, name) {
-            rules.push_elements(index, &mut parts)?;
+        if let Some(parts) = rule.member(index, name) {
+            parts.push_elements(index, rules)?;
         }
     }
     if let Some(negated) = rule.member(index, "Not") {
-        parts.push(negated)?;
+        rules.push(negated)?;
     }
-    Ok(parts)
+    Ok(())
 }
 
 /// What is wrong with a rule by itself, which is refused so.

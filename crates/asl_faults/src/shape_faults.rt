@@ -1,7 +1,7 @@
 //! What is wrong with a shape that is refused, and where.
 use crate::found::Found;
 use crate::index::Index;
-use crate::placed::{MOST_LEVELS, Placed, object_of, tree_at};
+use crate::placed::{Placed, object_of, tree_at};
 use asl_places::Spot;
 use asl_shape::{ShapeRefusal, read};
 use asl_tree::{OutOfMemory, Tree, copy};
@@ -20,37 +20,30 @@ const TYPES_SAID: &str = "A type is a text, or a list of one or more texts, each
 /// What is said of a name that ought to be a keyword.
 const NO_KEYWORD: &str = "is no keyword of shapes";
 
-/// What is wrong with the shape at a spot of a text, which is refused: the first part of it that is wrong by itself. Refuses
-/// only where an allocation was refused.
+/// What is wrong with the shape at a spot of a text, which is refused: with itself, or else with one in it, at the least depth.
+/// Refuses only where an allocation was refused.
 pub fn fault_of_shape(
     alloc: Global,
     index: &Index<'_, '_>,
     text: &[u8],
     spot: Spot,
 ) -> Result<Found, OutOfMemory> {
-    match tree_at(alloc, index, text, spot)? {
-        Some(tree) => fault_within(alloc, index, Placed { spot, tree: &tree }),
-        None => Ok(Found::at(spot)),
-    }
-}
-
-/// What is wrong with a shape that is refused.
-fn fault_within(
-    alloc: Global,
-    index: &Index<'_, '_>,
-    shape: Placed<'_>,
-) -> Result<Found, OutOfMemory> {
-    let mut at = shape;
-    for _level in 0..MOST_LEVELS {
-        if let Some(refusal) = refusal_of(alloc, &outline_of(alloc, at.tree)?)? {
-            return fault_at(alloc, index, at, &refusal);
+    let Some(tree) = tree_at(alloc, index, text, spot)? else {
+        return Ok(Found::at(spot));
+    };
+    let mut shapes = Vec::new(alloc);
+    shapes.push(Placed { spot, tree: &tree })?;
+    // Each shape has a byte of the text at least.
+    for at in 0..text.len() {
+        let Some(shape) = shapes.get(at).copied() else {
+            break;
+        };
+        if let Some(refusal) = refusal_of(alloc, &outline_of(alloc, shape.tree)?)? {
+            return fault_at(alloc, index, shape, &refusal);
         }
-        match first_refused(alloc, index, at)? {
-            Some(part) => at = part,
-            None => break,
-        }
+        push_shapes_in(index, shape, &mut shapes)?;
     }
-    Ok(Found::at(at.spot))
+    Ok(Found::at(spot))
 }
 
 /// Why a tree is no shape, where it is none.
@@ -109,37 +102,22 @@ fn outline_of_fields(alloc: Global, value: &Tree) -> Result<Tree, OutOfMemory> {
     Ok(Tree::Object(outline))
 }
 
-/// The first shape in a shape that is refused.
-fn first_refused<'t>(
-    alloc: Global,
+/// Puts the shapes in a shape behind the others.
+fn push_shapes_in<'t>(
     index: &Index<'_, '_>,
     shape: Placed<'t>,
-) -> Result<Option<Placed<'t>>, OutOfMemory> {
-    for part in shapes_in(alloc, index, shape)? {
-        if refusal_of(alloc, part.tree)?.is_some() {
-            return Ok(Some(part));
-        }
-    }
-    Ok(None)
-}
-
-/// The shapes in a shape.
-fn shapes_in<'t>(
-    alloc: Global,
-    index: &Index<'_, '_>,
-    shape: Placed<'t>,
-) -> Result<Vec<Placed<'t>>, OutOfMemory> {
-    let mut parts = Vec::new(alloc);
+    shapes: &mut Vec<Placed<'t>>,
+) -> Result<(), OutOfMemory> {
     if let Some(first) = shape.member(index, "prefixItems") {
-        first.push_elements(index, &mut parts)?;
+        first.push_elements(index, shapes)?;
     }
     if let Some(rest) = shape.member(index, "items") {
-        parts.push(rest)?;
+        shapes.push(rest)?;
     }
     if let Some(fields) = shape.member(index, "properties") {
-        fields.push_members(index, &mut parts)?;
+        fields.push_members(index, shapes)?;
     }
-    Ok(parts)
+    Ok(())
 }
 
 /// What is wrong with a shape by itself, which is refused so.

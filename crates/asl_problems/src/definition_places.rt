@@ -18,16 +18,16 @@ const MACHINE_FIELDS: [&str; 2] = ["StartAt", "States"];
 
 /// A definition in which places are found.
 #[derive(Drop)]
-pub(crate) struct DefinitionPlaces<'s, 'f, 'a> {
+pub(crate) struct DefinitionPlaces<'p, 's, 'f, 'a> {
     pub(crate) alloc: Global,
     pub(crate) text: &'f [u8],
-    pub(crate) index: &'s Index<'s, 'a>,
-    pub(crate) states: &'s States<'a>,
+    pub(crate) index: &'p Index<'s, 'a>,
+    pub(crate) states: &'p States<'a>,
     /// The paths in the values of fields in which problems tell some, by the token with which such a value begins.
-    pub(crate) paths: &'s BTreeMap<usize, Paths>,
+    pub(crate) paths: &'p BTreeMap<usize, Paths>,
 }
 
-impl DefinitionPlaces<'_, '_, '_> {
+impl DefinitionPlaces<'_, '_, '_, '_> {
     /// Where a problem is told.
     pub(crate) fn find(&self, problem: &Problem) -> Result<At, OutOfMemory> {
         let found = match self.fault_inside(problem)? {

@@ -61,16 +61,21 @@ struct Subject<'s, 'f, 'a> {
     paths: BTreeMap<usize, Paths>,
 }
 
-impl Subject<'_, '_, '_> {
+impl<'s, 'f, 'a> Subject<'s, 'f, 'a> {
     /// What is looked for places in, where it is a definition that is JSON.
-    fn definition(&self, alloc: Global) -> Option<DefinitionPlaces<'_, '_, '_>> {
-        Some(DefinitionPlaces {
-            alloc,
-            text: self.file.text,
-            index: self.index.as_ref()?,
-            states: self.states.as_ref()?,
-            paths: &self.paths,
-        })
+    fn definition<'p>(&'p self, alloc: Global) -> Option<DefinitionPlaces<'p, 's, 'f, 'a>> {
+        let text = self.file.text;
+        let paths = &self.paths;
+        match (&self.index, self.states) {
+            (Some(index), Some(states)) => Some(DefinitionPlaces {
+                alloc,
+                text,
+                index,
+                states,
+                paths,
+            }),
+            _ => None,
+        }
     }
 }
 
