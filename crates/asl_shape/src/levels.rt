@@ -1,4 +1,4 @@
-// Reading one level of the spelling of a shape.
+//! One level of the spelling of a shape: what its keywords say, all together ([`read_level`]) and one by one.
 ghost use Rattle.asl_model.specs.ShapeSpelling as model;
 ghost use Rattle.asl_model.specs.Tree as json;
 ghost use Rattle.asl_shape.specs.Level as levels;
@@ -195,8 +195,9 @@ fn untyped_level(keywords: &BTreeMap<String, Tree>) -> Result<Level<'_>, ShapeRe
     }
 }
 
-// The values that name the types which `type` says.
-fn type_names(tree: &Tree, several: bool) -> Result<&[Tree], ShapeRefusal>
+/// The values that name the types which `type` says, each of them one of the six, none twice; `several` says whether there
+/// may be a list of them.
+pub fn type_names(tree: &Tree, several: bool) -> Result<&[Tree], ShapeRefusal>
     ensures right { IfOk result (λ _. model.type_faults several (trees.view tree.now) ≡ []) }
     ensures names { IfOk result
         (λ names. model.texts_among (trees.elements_view names.now)
@@ -276,8 +277,8 @@ fn are_distinct(elements: &[Tree]) -> bool
     true
 }
 
-// Whether that text is among the elements.
-fn says(elements: &[Tree], name: &str) -> bool
+/// Whether that text is among the elements.
+pub fn says(elements: &[Tree], name: &str) -> bool
     ensures { result ≡ model.is_among name.now
         (model.texts_among (trees.elements_view elements.now)) }
 {
@@ -336,8 +337,15 @@ fn typed_level<'v>(
     })
 }
 
-// The keywords that belong to the types, where these are said to have `array` and `object` among them.
-fn known_keywords(array: bool, object: bool) -> &'static [&'static str]
+/// The keywords that are read past, of any kind.
+pub fn annotations() -> &'static [&'static str]
+    ensures { map (λ k. k.now) result.now ≡ model.annotations }
+{
+    &ANNOTATIONS
+}
+
+/// The keywords that belong to the types, where these are said to have `array` and `object` among them.
+pub fn known_keywords(array: bool, object: bool) -> &'static [&'static str]
     ensures { map (λ k. k.now) result.now ≡ keywords_for array object }
 {
     if array {
@@ -398,9 +406,9 @@ fn object_level_if(
     }
 }
 
-// What stands under that name.
+/// What stands under that name.
 #[tactic(auto, using(crate::proofs::Lookups::member_named_lookup))]
-fn member<'v>(keywords: &'v BTreeMap<String, Tree>, name: &str) -> Option<&'v Tree>
+pub fn member<'v>(keywords: &'v BTreeMap<String, Tree>, name: &str) -> Option<&'v Tree>
     ensures { tree_there result ≡ member_named name.now keywords.now.entries }
 {
     keywords.get(name)
@@ -432,7 +440,8 @@ fn all_among(keywords: &BTreeMap<String, Tree>, known: &[&str]) -> bool
     true
 }
 
-fn is_among(keyword: &str, known: &[&str]) -> bool
+/// Whether the keyword is one of those.
+pub fn is_among(keyword: &str, known: &[&str]) -> bool
     ensures { result ≡ model.is_among keyword.now (map (λ k. k.now) known.now) }
 {
     for one in known {
@@ -461,8 +470,8 @@ fn list_level(keywords: &BTreeMap<String, Tree>) -> Result<ListLevel<'_>, ShapeR
     })
 }
 
-// What stands in `prefixItems`.
-fn prefix_items(keywords: &BTreeMap<String, Tree>) -> Result<&[Tree], ShapeRefusal>
+/// What stands in `prefixItems`, a list; nothing where it is absent.
+pub fn prefix_items(keywords: &BTreeMap<String, Tree>) -> Result<&[Tree], ShapeRefusal>
     ensures right { IfOk result
         (λ _. list_faults (member_named (codes "prefixItems") keywords.now.entries) ≡ []) }
     ensures elements { IfOk result
@@ -491,8 +500,8 @@ fn elements(tree: &Tree) -> Result<&[Tree], ShapeRefusal>
     }
 }
 
-// Refuses a `minItems` other than the number of the shapes in `prefixItems`.
-fn check_min_items(keywords: &BTreeMap<String, Tree>, count: usize) -> Result<(), ShapeRefusal>
+/// Refuses a `minItems` other than the number of the shapes in `prefixItems`.
+pub fn check_min_items(keywords: &BTreeMap<String, Tree>, count: usize) -> Result<(), ShapeRefusal>
     ensures right { IfOk result
         (λ _. model.min_items_faults
         (member_named (codes "minItems") keywords.now.entries) count ≡ []) }
@@ -555,8 +564,8 @@ fn object_level(
     })
 }
 
-// What stands in `properties`.
-fn read_properties(
+/// What stands in `properties`, an object.
+pub fn read_properties(
     keywords: &BTreeMap<String, Tree>,
 ) -> Result<Option<&BTreeMap<String, Tree>>, ShapeRefusal>
     ensures right { IfOk result
@@ -587,8 +596,8 @@ fn members(tree: &Tree) -> Result<&BTreeMap<String, Tree>, ShapeRefusal>
     }
 }
 
-// Whether other fields may be there, as `additionalProperties` says.
-fn read_additional(keywords: &BTreeMap<String, Tree>) -> Result<bool, ShapeRefusal>
+/// Whether other fields may be there, as `additionalProperties` says.
+pub fn read_additional(keywords: &BTreeMap<String, Tree>) -> Result<bool, ShapeRefusal>
     ensures right { IfOk result
         (λ _. model.extra_faults
         (member_named (codes "additionalProperties") keywords.now.entries) ≡ []) }
@@ -619,8 +628,8 @@ fn truth_value(tree: &Tree) -> Result<bool, ShapeRefusal>
     }
 }
 
-// The names in `required`.
-fn read_required(
+/// The names in `required`, in their order, no two alike.
+pub fn read_required(
     alloc: Global,
     keywords: &BTreeMap<String, Tree>,
 ) -> Result<Vec<&String>, ShapeRefusal>

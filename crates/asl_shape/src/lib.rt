@@ -1,11 +1,12 @@
 //! Shapes of trees: reading and writing them, membership, inhabitants, and copies of them.
 //!
 //! A [`Shape`] says which trees are meant (a subset of JSON Schema 2020-12). [`read`] makes one of the tree that spells
-//! it, [`read_level`] tells one [`Level`] of such a tree; [`read_v1`] refuses lists of types. [`has`] tests a tree,
-//! [`inhabited`] whether there is one at all. [`copy`] makes an equal shape, [`write`] the tree that spells it.
-//! [`write_kinds`] writes one level of a shape, where the trees of its parts are given. [`take_apart`] tells what a shape
-//! takes of each kind of tree, [`of_kinds`] makes a shape of that, and [`proper`] tests whether the shapes of several kinds
-//! in one are as they should be. Two shapes are compared and joined in `asl_shape_order`.
+//! it, [`read_level`] tells one [`Level`] of such a tree, and [`levels`] what its keywords say one by one; [`read_v1`]
+//! refuses lists of types. [`has`] tests a tree, [`inhabited`] whether there is one at all. [`copy`] makes an equal shape,
+//! [`write`] the tree that spells it. [`write_kinds`] writes one level of a shape, where the trees of its parts are given.
+//! [`take_apart`] tells what a shape takes of each kind of tree, [`of_kinds`] makes a shape of that, and [`proper`] tests
+//! whether the shapes of several kinds in one are as they should be. Two shapes are compared and joined in
+//! `asl_shape_order`.
 #![tactic(auto)]
 
 ghost use Rattle.std.specs.Prelude.{◌≡◌};
@@ -13,7 +14,7 @@ ghost use Rattle.std.specs.Prelude.{◌≡◌};
 mod copying;
 mod inhabiting;
 mod kinds;
-mod levels;
+pub mod levels;
 mod membership;
 mod properness;
 mod reading;
