@@ -100,18 +100,6 @@ covered_is_none table told h =
 
 -- ---- counting
 
--- of a state that is entered
-pub entered_lacks : (t : Part → Bool) (state : State) → t Itself ≡ true → lacking_of t state ≡ untaken t (parts_of state)
-entered_lacks t state e = ap (λ b. cond b (untaken t (parts_of state)) (Itself ∷ [])) e
-
--- of one that isn't
-pub unentered_lacks : (t : Part → Bool) (state : State) → t Itself ≡ false → length (lacking_of t state) ≡ 1
-unentered_lacks t state e =
-    ap (λ b. length (cond b (untaken t (parts_of state)) (Itself ∷ []))) e ∙ one_is
-  where
-    one_is : length (Itself ∷ []) ≡ 1
-    one_is = omega arith
-
 -- the parts of a state that is entered, one kind after the other
 pub parts_counted : (t : Part → Bool) (rules default retriers catchers : List Part) → t Itself ≡ true → length (untaken t (Itself ∷ (rules ++ (default ++ (retriers ++ catchers))))) ≡ length (untaken t rules) + length (untaken t default) + length (untaken t retriers) + length (untaken t catchers)
 parts_counted t rules default retriers catchers e =

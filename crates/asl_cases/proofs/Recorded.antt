@@ -132,6 +132,3 @@ none_taken_more table states number state covered before many at noted = record 
       subst (λ x. flags_view c ≡ flags_of (λ part. false) x) same (subst (λ x. flags_view x ≡ flags_of (λ part. false) state) e.1 noted))
       (get_push states covered k c is);
 }
-
-pub none_taken_all : (table : Table) (states : List Covered) → length states ≡ length table.states → NoneTaken table states → AreFlagsOf table [] states
-none_taken_all table states many none = record { many = many; each = none.each }

@@ -13,7 +13,7 @@ use Rattle.asl_machine_table.specs.Table.{table_view}
 use Rattle.asl_tree.specs.declared.OutOfMemory.{OutOfMemory}
 use Rattle.asl_records.specs.Numbered.{AreNumbersBelow, numbers_view}
 use Rattle.asl_records.specs.declared.records.StateNumbers.{StateNumbers}
-use Rattle.asl_records.proofs.Kept.{numbers_within}
+use Rattle.asl_records.specs.Laws.{numbers_within}
 use Rattle.asl_state_edges.specs.Entry.{IsEntryBelow, entry_view}
 use Rattle.asl_state_edges.specs.declared.found.Entry.{Entry}
 use Rattle.asl_check.specs.Faults.{fault_view}

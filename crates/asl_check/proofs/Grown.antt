@@ -8,7 +8,7 @@ use Rattle.asl_shape.specs.declared.shape.Shape as shape
 use Rattle.asl_shape.specs.declared.shape.Shape.TheFolds.{fold-roll-Shape}
 use Rattle.asl_shape.specs.declared.shape.Shape.TheOpen
 use Rattle.asl_shape.specs.declared.shape.Shape.TheVariants
-use Rattle.asl_records.proofs.Kept.{entries_shown, entries_within}
+use Rattle.asl_records.specs.Laws.{entries_shown, entries_within}
 use Rattle.asl_records.specs.Numbered.{AreWithin}
 use Rattle.asl_records.specs.declared.records.NumberedCertificate.{NumberedCertificate}
 use Rattle.asl_check.specs.Numbers.{IsWithin, certificate_of}

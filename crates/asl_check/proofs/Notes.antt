@@ -1,6 +1,5 @@
 -- Notes of broken rules: what noting one more does to them, and what they tell.
-use Rattle.std.proofs.Common.{◌≡◌, ◌+◌, ◌<◌, ◌≤◌, ℕ, List, [], ◌∷◌, ◌++◌, length, get_or, drop, Bool, Option, Some, None, is_some, true, false, cond, bytes_eq, Ordering, Less, Equal, Greater, String, string_bytes, string_cmp, refl, sym, ap, ◌∙◌, subst, append_assoc, drop-cons, add-one}
-use Rattle.std.proofs.lemmas.List.{append-nil, drop_all}
+use Rattle.std.proofs.Common.{◌≡◌, ◌+◌, ◌<◌, ℕ, List, [], ◌∷◌, ◌++◌, length, get_or, drop, Bool, Option, Some, None, is_some, true, false, cond, bytes_eq, Ordering, Less, Equal, Greater, String, string_bytes, string_cmp, refl, sym, ap, ◌∙◌, subst, append_assoc, drop-cons, add-one}
 use Rattle.std.specs.List.Sorted.{IsStrictlySortedBy}
 use Rattle.std.specs.Option.{option_or}
 use Rattle.std.specs.declared.alloc.Global.{Global}
@@ -116,10 +115,6 @@ module _ (table : List Shape) (rules : List Listed) where
           ∙ (sym (first_of_both n (notes_view now ++ listed_view table rule ∷ []) left)
           ∙ (ap (first_of n) (append_assoc (notes_view now) (listed_view table rule ∷ []) left)
           ∙ ap (λ rest. first_of n (notes_view now ++ rules_view table rest)) (sym split))))
-
-  -- all are noted
-  pub all_noted : (notes : List Note) (i : ℕ) → length rules ≤ i → AreNoted (rules_view table rules) (with_left notes i) → AreNoted (rules_view table rules) (notes_view notes)
-  all_noted notes i end l = record { first = λ n. ap (first_of n) (sym (append-nil (notes_view notes))) ∙ (ap (λ rest. first_of n (notes_view notes ++ rules_view table rest)) (sym (drop_all i rules end)) ∙ l.first n) }
 
 -- ---- what the notes tell
 

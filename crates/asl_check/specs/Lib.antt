@@ -1,6 +1,7 @@
 pub mod Checked
 pub mod Checking
 pub mod Faults
+pub mod Found
 pub mod Listing
 pub mod Noting
 pub mod Numbers

@@ -1,4 +1,4 @@
-// Checking a certificate against a machine and its declared shapes.
+//! Checking a certificate against a machine and its declared shapes.
 
 ghost use Rattle.std.specs.Prelude.{◌≡◌, ◌↔◌, IfOk, IsSome};
 ghost use Rattle.std.specs.List.{All};

@@ -1,4 +1,4 @@
-// Comparing what flows with what is certified.
+//! Comparing what flows with what is certified.
 
 ghost use Rattle.std.specs.Prelude.{◌≡◌, ◌≢◌, ◌<◌, length, IfOk, IfSome, option_map, option_to_list};
 ghost use Rattle.asl_model.specs.Finding.{PathMayBeMissing, breach_unless_sub};

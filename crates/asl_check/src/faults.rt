@@ -1,4 +1,4 @@
-// Rules that are broken in what flows, and what shows them, by the numbers of a table of shapes.
+//! Rules that are broken in what flows, and what shows them, by the numbers of a table of shapes.
 
 ghost use Rattle.std.specs.Prelude.{◌≡◌, ℕ, IfOk, IfSome, length, List, option_map, option_to_list};
 ghost use Rattle.asl_state_edges.specs.View.{broken_view, finding_fault_view, IsBrokenBelow};

@@ -1,4 +1,4 @@
-// Broken rules with the names of their states, by the numbers of a table of shapes.
+//! Broken rules with the names of their states, by the numbers of a table of shapes.
 
 ghost use Rattle.std.specs.Prelude.{List, IfSome, OnOk, length, option_map, option_to_list};
 ghost use Rattle.asl_model.specs.Finding.{found_at};

@@ -1,4 +1,4 @@
-// Going over the rules of a certificate, one list of rules after another.
+//! Going over the rules of a certificate, one list of rules after another.
 
 ghost use Rattle.std.specs.Prelude.{◌≡◌, List, IfOk, IfSome, OnOk, codes, length, map, option_map, option_to_list, string_bytes};
 ghost use Rattle.std.specs.BTreeMap.{keys};

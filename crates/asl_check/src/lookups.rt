@@ -1,4 +1,4 @@
-// What the rules look up in the machine's table and in the certificate.
+//! What the rules look up in the machine's table and in the certificate.
 
 ghost use Rattle.std.specs.Prelude.{◌≡◌, ◌<◌, List, length, IfSome, option_map};
 ghost use Rattle.asl_model.specs.Certificate.{certified, child_end};

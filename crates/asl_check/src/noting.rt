@@ -1,4 +1,4 @@
-// Noting broken rules: of each name that has one, the first, with the tree that shows it.
+//! Noting broken rules: of each name that has one, the first, with the tree that shows it.
 
 ghost use Rattle.std.specs.Prelude.{◌≡◌, [], ◌∷◌, ◌++◌, IfOk, OnOk, length};
 ghost use Rattle.asl_model.specs.Verdict.{AreInNameOrder};

@@ -1,4 +1,4 @@
-// The order of names in shapes that are declared.
+//! The order of names in shapes that are declared.
 
 ghost use Rattle.asl_model.specs.RecordShapes.{HoldsForDeclared};
 ghost use Rattle.asl_model.specs.Shape.{IsOrdered};

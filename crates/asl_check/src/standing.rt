@@ -1,4 +1,4 @@
-// Comparing what flows out of a state with what stands at the destinations of its edges.
+//! Comparing what flows out of a state with what stands at the destinations of its edges.
 
 ghost use Rattle.std.specs.Prelude.{◌≡◌, ◌<◌, List, length, IfOk, IfSome, OnOk, option_map, option_to_list};
 ghost use Rattle.asl_model.specs.Edges.{breaches_along, breaches_at, stands_at};

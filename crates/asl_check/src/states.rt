@@ -1,18 +1,14 @@
-// The rules of one state: on its entry, and on what flows through it.
+//! The rules of one state: on its entry, and on what flows through it.
 
 ghost use Rattle.std.specs.Prelude.{◌≡◌, List, length, OnOk, option_map};
 ghost use Rattle.asl_model.specs.Finding as finding;
-ghost use Rattle.asl_model.specs.Finding.{found_at};
 ghost use Rattle.asl_model.specs.Shape as model;
 ghost use Rattle.asl_numbered.specs.Expansion.{Keeps};
-ghost use Rattle.asl_states.specs.Machine.{kind_view, scope_view, settings_view};
-ghost use Rattle.asl_machine_table.specs.Table.{table_view};
+ghost use Rattle.asl_states.specs.Machine.{kind_view};
 ghost use Rattle.asl_records.specs.Numbered.{AreNumbersBelow, numbers_view};
-ghost use Rattle.asl_records.specs.View.{declared_view};
-ghost use Rattle.asl_check.specs.Checking.{row_view};
+ghost use Rattle.asl_check.specs.Found.{found_on_entry, found_through, found_with_entry};
 ghost use Rattle.asl_check.specs.Listing.{Adds};
-ghost use Rattle.asl_check.specs.Numbers.{IsWithin, certificate_of};
-ghost use Rattle.asl_check.specs.Rules.{end_in, inputs_in, entry_rules, flow_rules};
+ghost use Rattle.asl_check.specs.Numbers.{IsWithin};
 
 use crate::checker::Checker;
 use crate::faults::breach_unless;
@@ -34,9 +30,7 @@ impl Checker<'_> {
         row: &Row<'m>,
     ) -> Result<(), OutOfMemory>
         ensures { (table : List model.Shape) → OnOk result
-            (Adds table rules.old.items rules.new.items
-            (found_at row.now.name.now (entry_rules (declared_view self.now.declared.now)
-            (certificate_of table self.now) (row_view row.now)))) }
+            (Adds table rules.old.items rules.new.items (found_on_entry table self.now row.now)) }
     {
         let kind = &row.state.kind;
         let certified = is_certified(kind, self.states.get(row.name));
@@ -55,11 +49,8 @@ impl Checker<'_> {
         row: &Row<'m>,
     ) -> Result<(), OutOfMemory>
         requires within { IsWithin shapes.old self.now }
-        ensures adds { OnOk result
-            (Adds shapes.new rules.old.items rules.new.items
-            (found_at row.now.name.now (flow_rules (table_view self.now.machine.now)
-            (declared_view self.now.declared.now) (certificate_of shapes.old self.now)
-            (row_view row.now)))) }
+        ensures adds { OnOk result (Adds shapes.new rules.old.items rules.new.items
+            (found_through shapes.old self.now row.now)) }
         ensures keeps { Keeps shapes.old shapes.new }
     {
         match self.states.get(row.name) {
@@ -79,15 +70,8 @@ impl Checker<'_> {
     ) -> Result<(), OutOfMemory>
         requires within { IsWithin shapes.old self.now }
         requires entry { AreNumbersBelow (length shapes.old) entry.now }
-        ensures adds { OnOk result
-            (Adds shapes.new rules.old.items rules.new.items
-            (found_at row.now.name.now (finding.flow_breaches
-            (finding.surrounded_by (declared_view self.now.declared.now)
-            (inputs_in (table_view self.now.machine.now) (certificate_of shapes.old self.now))
-            (end_in (table_view self.now.machine.now)
-            (certificate_of shapes.old self.now) (scope_view row.now.scope.now))
-            row.now.name.now (numbers_view shapes.old entry.now))
-            (settings_view row.now.state.now.settings) (kind_view row.now.state.now.kind)))) }
+        ensures adds { OnOk result (Adds shapes.new rules.old.items rules.new.items
+            (found_with_entry shapes.old self.now row.now entry.now)) }
         ensures keeps { Keeps shapes.old shapes.new }
     {
         let task = number_task(shapes, self.declared, row.name)?;

@@ -1,4 +1,4 @@
-// What tasks take and give, by number.
+//! What tasks take and give, by number.
 
 ghost use Rattle.std.specs.Prelude.{IfOk};
 ghost use Rattle.asl_numbered.specs.Expansion.{Keeps};

@@ -1,4 +1,4 @@
-// Findings of all broken rules, each with the tree that shows it, and with the path that names nothing there.
+//! Findings of all broken rules, each with the tree that shows it, and with the path that names nothing there.
 
 ghost use Rattle.std.specs.Prelude.{◌≡◌, IfOk, length};
 ghost use Rattle.std.specs.List.{All};

@@ -1,4 +1,4 @@
-// What the checker answers.
+//! What the checker answers.
 
 use asl_state_edges::FindingFault;
 use asl_tree::Tree;

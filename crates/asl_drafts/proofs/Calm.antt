@@ -1,5 +1,5 @@
 -- States that don't wait stay at rest.
-use Rattle.std.proofs.Common.{◌≡◌, ◌<◌, ℕ, List, length, Bool, true, false, IsTrue, nat_lt, Option, Some, None, Result, Ok, Err, IfOk, refl, sym, ap, ◌∙◌, subst, ◌⊎◌, inl, inr, arith}
+use Rattle.std.proofs.Common.{◌≡◌, ◌<◌, ℕ, List, length, Bool, true, false, IsTrue, nat_lt, Option, Some, None, refl, sym, ap, ◌∙◌, subst, ◌⊎◌, inl, inr, arith}
 use Rattle.std.proofs.lemmas.Bool.{and_parts, and_from, false≢true}
 use borrow.Author.Tests.{ltb-true, lt-ltb}
 use Rattle.asl_model.specs.Certificate.{Declared}
@@ -115,8 +115,3 @@ module _ (table : Table) (declared : Declared) (row : Row) (one two : Walker) (t
       by : (waits_in one.waiting.waits.items row.number ≡ true) ⊎ RestedThen → (waits_in two.waiting.waits.items row.number ≡ true) ⊎ RestsNow
       by (inl waits) = inl (stays.stays row.number waits)
       by (inr rest) = rested changed refl makes rest
-
-  -- where it is told
-  pub stays-calm : {E : Type 0} (r : Result Bool E) → IfOk r (λ changed. Makes room (taken_at (Some (target_view t)) s) (draft_view one.draft) changed (draft_view two.draft)) → IfOk r (λ changed. changed ≡ true → HaveWoken (length one.draft.store) two.draft two.predecessors t two.waiting.waits.items) → IsCalm table declared row one → IfOk r (λ changed. IsCalm table declared row two)
-  stays-calm (Ok changed) makes woken was = calm-by changed makes woken was
-  stays-calm (Err e) makes woken was = tt

@@ -108,6 +108,3 @@ module _ (start measured cut : List model.Shape) (below levels n : ℕ) (ns cuts
     -- so in its own table
     pub made_of_own : Shows made (cut_to levels (shape_at made n)) m
     made_of_own = subst (λ s. Shows made (cut_to levels s) m) (sym (kept_shape cut made n further there_cut)) made_cut
-
-    pub there_made : n < length made
-    there_made = kept_within cut made n further there_cut

@@ -1,5 +1,5 @@
 -- Where steps lead, and what flows there.
-use Rattle.std.proofs.Common.{◌≡◌, ◌<◌, ◌≤◌, ◌+◌, ◌++◌, ◌∷◌, ℕ, zero, suc, List, [], length, get_or, take, Bool, Option, Some, None, Result, IfOk, refl, sym, ap, ◌∙◌, subst, arith}
+use Rattle.std.proofs.Common.{◌≡◌, ◌<◌, ◌≤◌, ◌+◌, ◌++◌, ◌∷◌, ℕ, zero, suc, List, [], length, get_or, take, Option, Some, None, refl, sym, ap, ◌∙◌, subst, arith}
 use Rattle.std.proofs.lemmas.List.{length-map, length-take-le, map-append, take_more}
 use Rattle.std.specs.Prelude.{IfSome}
 use Rattle.asl_model.specs.Edges.{Walked, Breaks}
@@ -18,17 +18,12 @@ use Rattle.asl_state_edges.specs.declared.faults.Broken.{Broken}
 use Rattle.asl_state_edges.specs.declared.found.Edge.{Edge}
 use Rattle.asl_state_edges.specs.declared.found.Step.{Step}
 use Rattle.asl_state_edges.specs.declared.found.Step.TheVariants as step
-use Rattle.asl_drafts.specs.Drafted.{room}
-use Rattle.asl_drafts.specs.Entries.{Makes}
 
 module _ (table : Table) (n : ℕ) (shapes : List Shape) (edge : Edge) where
   -- an edge that leads to a shape of the draft
   module _ (into : model.Target) (leads : Some into ≡ model.target_of table n (destination_view edge.destination)) where
     pub edge-rests : (known : Memory) (draft : model.Draft) (place : ℕ) → FlowRests n known draft place (Some into) (shape_at shapes edge.flowing) → StepRests table n known draft place (edge_view shapes edge)
     edge-rests known draft place rest = subst (λ o. FlowRests n known draft place o (shape_at shapes edge.flowing)) leads rest
-
-    pub edge-taken : {E : Type 0} (r : Result Bool E) (before after : model.Draft) → IfOk r (λ changed. Makes room (taken_at (Some into) (shape_at shapes edge.flowing)) before changed after) → IfOk r (λ changed. Makes room (step_taken table n (edge_view shapes edge)) before changed after)
-    edge-taken r before after makes = subst (λ o. IfOk r (λ changed. Makes room (taken_at o (shape_at shapes edge.flowing)) before changed after)) leads makes
 
   -- and one that leads to none
   module _ (leads : None ≡ model.target_of table n (destination_view edge.destination)) where

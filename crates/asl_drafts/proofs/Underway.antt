@@ -1,21 +1,21 @@
 -- States that are walked: what flows along their edges is remembered and taken in.
 use Rattle.std.proofs.Common.{◌≡◌, ◌≢◌, ◌<◌, ◌+◌, ◌++◌, ◌∷◌, ◌||◌, ℕ, List, [], length, Bool, true, false, IsTrue, Some, Result, Ok, Err, IfOk, refl, sym, ap, ap₂, ◌∙◌, subst, ◌⊎◌, inl, inr, arith}
 use Rattle.std.proofs.lemmas.Bool.{false≢true}
-use Rattle.asl_model.specs.Certificate.{Declared, takes_of}
+use Rattle.asl_model.specs.Certificate.{Declared}
 use Rattle.asl_model.specs.Edges.{Walked}
 use Rattle.asl_model.specs.Numbering.{Table}
 use Rattle.asl_model.specs.Shape.{Shape}
 use Rattle.asl_draft_laws.specs.Drafts as model
-use Rattle.asl_draft_laws.specs.Drafts.{Row, own_breaches, step_taken, steps_of, steps_taken, taken_at}
+use Rattle.asl_draft_laws.specs.Drafts.{Row, step_taken, steps_of, steps_taken, taken_at}
 use Rattle.asl_draft_laws.specs.Resting.{FlowRests, IsPassedBy, Memory, Rests, StepRests, StepsRest}
 use Rattle.asl_draft_laws.proofs.PassedOver.{rest-kept, rest-known, rest-push, rests-known, steps-passed}
 use Rattle.asl_numbered.specs.Expansion.{shape_at, Keeps}
-use Rattle.asl_numbered.specs.Laws.{keeps_same, keeps_trans, kept_shape, kept_within}
+use Rattle.asl_numbered.specs.Laws.{keeps_trans, kept_shape, kept_within}
 use Rattle.asl_drafts.specs.Calm.{IsCalm, memory_of, has_shape, target_meant}
 use Rattle.asl_drafts.specs.Drafted.{draft_view, room, target_view}
 use Rattle.asl_drafts.specs.Entries.{Makes}
 use Rattle.asl_drafts.specs.Predecessors.{flowed}
-use Rattle.asl_drafts.specs.Underway.{IsCalmAfter, IsUnderway, OthersStayCalm, StepsOn}
+use Rattle.asl_drafts.specs.Underway.{IsUnderway, OthersStayCalm, StepsOn}
 use Rattle.asl_drafts.specs.Waiting.{waits_in}
 use Rattle.asl_drafts.specs.Walker.{HaveWoken, StaysWaiting}
 use Rattle.asl_drafts.specs.declared.draft.Target.{Target}
@@ -211,16 +211,6 @@ pub record HasWalked (table : Table) (n : ℕ) (steps done : List Walked) (first
   pub keeps : Keeps first.draft.store now.draft.store
 
 module _ (table : Table) (n : ℕ) (steps : List Walked) (first : Walker) where
-  -- along none
-  pub walked-none : HasWalked table n steps [] first false first
-  walked-none = record {
-    makes = record { made = refl; told = refl };
-    waits = record { many = refl; order = refl; stays = λ m h. h };
-    others = record { calm = λ other declared row apart in_waits was. was };
-    walked = λ declared row number in_waits same. record { underway = inr (same, tt) };
-    keeps = keeps_same first.draft.store;
-  }
-
   -- along one more
   pub walked-more : (done : List Walked) (step : Walked) (one two : Walker) (origin : Origin) (before changed after : Bool) → HasWalked table n steps done first before one → origin.state ≡ n → length done ≡ origin.place → after ≡ (before || changed)
       → Makes room (step_taken table origin.state step) (draft_view one.draft) changed (draft_view two.draft) → StaysWaiting one.waiting two.waiting → OthersStayCalm origin.state one two → StepsOn table origin step one two → Keeps one.draft.store two.draft.store
@@ -234,18 +224,6 @@ module _ (table : Table) (n : ℕ) (steps : List Walked) (first : Walker) where
     walked = λ declared row number in_waits same. further.further declared row steps done (number ∙ sym state) in_waits place (h.walked declared row number (omega (arith, in_waits, waits.many)) same);
     keeps = keeps_trans _ _ _ h.keeps keeps;
   }
-
-  -- along all of them
-  pub walked-all : (done : List Walked) (changed : Bool) (now : Walker) → done ≡ steps → HasWalked table n steps done first changed now → IsCalmAfter table n steps first now
-  walked-all done changed now all h = record { calm = λ declared row number in_waits same whole. record { calm = by declared row same whole (h.walked declared row number in_waits same).underway } }
-    where
-      by : (declared : Declared) (row : Row) → steps_of declared (draft_view first.draft) row ≡ steps → own_breaches (takes_of declared row.name) steps ≡ [] → (waits_in now.waiting.waits.items row.number ≡ true) ⊎ ((steps_of declared (draft_view now.draft) row ≡ steps) × StepsRest table row.number (known_to now) (draft_view now.draft) 0 done)
-          → (waits_in now.waiting.waits.items row.number ≡ true) ⊎ Rests table declared row (known_to now) (draft_view now.draft)
-      by declared row same whole (inl waiting) = inl waiting
-      by declared row same whole (inr rest) = inr (record {
-        whole = ap (own_breaches (takes_of declared row.name)) rest.0 ∙ whole;
-        steps = subst (StepsRest table row.number (known_to now) (draft_view now.draft) 0) (all ∙ sym rest.0) rest.1;
-      })
 
 -- whether a shape was changed so far
 pub changed-now : (before changed : Bool) → changed ≡ true → true ≡ (before || changed)

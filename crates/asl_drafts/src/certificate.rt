@@ -1,4 +1,4 @@
-// The entries of the certificate that a draft has come to.
+//! The entries of the certificate that a draft has come to.
 
 ghost use Rattle.std.specs.Prelude.{◌<◌, length, suc, IfOk, OnOk};
 ghost use Rattle.asl_model.specs.Shape.{Never};
@@ -43,7 +43,7 @@ pub(crate) fn certified_states(
     Ok(states)
 }
 
-// Adds the entry of the state of that number, if it has a name.
+/// Adds the entry of the state of that number, if it has a name.
 fn add_state(
     alloc: Global,
     machine: &Machine,
@@ -67,7 +67,7 @@ fn add_state(
     Ok(())
 }
 
-// The entry of the state of that number, which has that type.
+/// The entry of the state of that number, which has that type.
 fn certified(
     alloc: Global,
     draft: &Draft,
@@ -83,7 +83,7 @@ fn certified(
     numbers_of_entry(alloc, entry)
 }
 
-// The numbers of an entry.
+/// The numbers of an entry.
 fn numbers_of_entry(alloc: Global, entry: Entry) -> Result<StateNumbers, OutOfMemory>
     ensures { IfOk result (AreNumbersOf entry.entry) }
 {

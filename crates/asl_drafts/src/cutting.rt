@@ -1,4 +1,4 @@
-// Shapes cut to a depth, so that a shape can't grow without end.
+//! Shapes cut to a depth, so that a shape can't grow without end.
 
 ghost use Rattle.std.specs.Prelude.{◌<◌, ◌≤◌, length, IfOk};
 ghost use Rattle.asl_model.specs.ShapeOrder as order;
@@ -26,7 +26,7 @@ pub(crate) fn join_cut(store: &mut Store, first: usize, second: usize) -> Result
     cut_to(store, joined, DEEPEST)
 }
 
-// The number of the shape down to so many levels, with Any for each shape below them.
+/// The number of the shape down to so many levels, with Any for each shape below them.
 #[cycle(cut_to)]
 fn cut_to(store: &mut Store, number: usize, levels: u8) -> Result<usize, OutOfMemory>
     requires within { number < length store.old }
@@ -51,7 +51,7 @@ fn cut_to(store: &mut Store, number: usize, levels: u8) -> Result<usize, OutOfMe
     Ok(made)
 }
 
-// So for each of the numbers.
+/// So for each of the numbers.
 #[cycle(cut_to)]
 fn cut_each(store: &mut Store, numbers: &[usize], levels: u8) -> Result<Vec<usize>, OutOfMemory>
     requires below { AreBelow (length store.old) numbers.now }

@@ -1,4 +1,4 @@
-// How deep the shapes of a table are.
+//! How deep the shapes of a table are.
 
 ghost use Rattle.std.specs.Prelude.{◌≡◌, ◌<◌, ◌≤◌, length, IfOk, List, OnOk};
 ghost use Rattle.asl_model.specs.Shape as model;

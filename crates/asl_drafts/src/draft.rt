@@ -1,4 +1,4 @@
-// A certificate in the making: its shapes, which grow as the machine's states are walked.
+//! A certificate in the making: its shapes, which grow as the machine's states are walked.
 
 ghost use Rattle.asl_drafts.specs.Growing.{AreGrown, IsGrown};
 
@@ -33,7 +33,7 @@ impl Target {
     ghost use Rattle.std.specs.Prelude.{◌≡◌};
     ghost use Rattle.asl_drafts.specs.Drafted.{part_of};
 
-    // The state whose entry has the shape, and which of the entry's it is.
+    /// The state whose entry has the shape, and which of the entry's it is.
     fn part(self) -> Option<(usize, Part)>
         ensures { result ≡ part_of self }
     {
@@ -225,7 +225,7 @@ impl Draft {
         Ok(draft.with_states(states))
     }
 
-    // The certificate with those entries.
+    /// The certificate with those entries.
     fn with_states(self, states: BTreeMap<String, StateNumbers>) -> NumberedCertificate
         ensures { result
             ≡ record { shapes = self.store; output = self.output.number; states = states } }
@@ -237,7 +237,7 @@ impl Draft {
         }
     }
 
-    // The number of the shape that no tree has.
+    /// The number of the shape that no tree has.
     fn never(&mut self) -> Result<usize, OutOfMemory>
         ensures number { IfOk result (Shows self.new.store Never) }
         ensures same { draft_view self.new ≡ draft_view self.old }
@@ -246,7 +246,7 @@ impl Draft {
         self.store.put(Node::Never)
     }
 
-    // The shape, so far, where it is there.
+    /// The shape, so far, where it is there.
     fn growing(&self, target: Target) -> Option<Growing>
         ensures grown { IfSome result (IsGrown self.now.store) }
         ensures there { result ≡ growing_of self.now target }

@@ -1,4 +1,4 @@
-// The entries of a draft: the shapes of the states of a machine.
+//! The entries of a draft: the shapes of the states of a machine.
 
 ghost use Rattle.std.specs.Prelude.{◌≡◌, ◌<◌, ℕ, List, length, map, IfOk, replicate};
 ghost use Rattle.asl_draft_laws.specs.Drafts as drafts;
@@ -93,7 +93,7 @@ pub(crate) fn new_entries(
     Ok(entries)
 }
 
-// The entry of a state of that type, with that shape throughout.
+/// The entry of a state of that type, with that shape throughout.
 fn new_entry(alloc: Global, kind: &Kind, never: Growing) -> Result<DraftEntry, OutOfMemory>
     ensures { IfOk result
         (λ entry. growths_in entry
@@ -110,7 +110,7 @@ fn new_entry(alloc: Global, kind: &Kind, never: Growing) -> Result<DraftEntry, O
     })
 }
 
-// How many children a state of that type has.
+/// How many children a state of that type has.
 fn children_in(kind: &Kind) -> usize
     ensures { result ≡ drafts.children_in (kind_view kind.now) }
 {
@@ -151,7 +151,7 @@ pub(crate) fn take_in_entries(
     }
 }
 
-// So for one of the shapes of an entry.
+/// So for one of the shapes of an entry.
 fn take_in_entry(
     store: &mut Store,
     entry: &mut DraftEntry,
@@ -173,7 +173,7 @@ fn take_in_entry(
     }
 }
 
-// So for the end of one of the children.
+/// So for the end of one of the children.
 fn take_in_ends(
     store: &mut Store,
     ends: &mut Vec<Growing>,
@@ -218,7 +218,7 @@ pub(crate) fn entry_in<'e>(kind: &Kind, numbers: &'e EntryNumbers) -> Entry<'e>
     }
 }
 
-// The numbers of the shapes.
+/// The numbers of the shapes.
 fn numbers_of(alloc: Global, shapes: &[Growing]) -> Result<Vec<usize>, OutOfMemory>
     ensures { IfOk result (λ numbers. numbers.items ≡ map (λ g. g.number) shapes.now) }
 {

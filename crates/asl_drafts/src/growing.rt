@@ -1,4 +1,4 @@
-// A shape that grows as more flows into it.
+//! A shape that grows as more flows into it.
 
 use crate::cutting::join_cut;
 use crate::store::Store;

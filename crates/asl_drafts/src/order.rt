@@ -1,4 +1,4 @@
-// The order in which the states of a machine are walked.
+//! The order in which the states of a machine are walked.
 
 ghost use Rattle.std.specs.Prelude.{◌≡◌, IfOk, map};
 ghost use Rattle.asl_model.specs.ShapeSpelling.{are_distinct};

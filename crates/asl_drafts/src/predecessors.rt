@@ -1,4 +1,4 @@
-// Where what has flowed into the shapes of a draft came from.
+//! Where what has flowed into the shapes of a draft came from.
 
 ghost use Rattle.std.specs.Prelude.{◌≡◌, ◌≢◌, ℕ, Contains, IfOk, None, OnOk, Some};
 ghost use mathlib.Core.Logic.{◌⊎◌};

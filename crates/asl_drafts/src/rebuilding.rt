@@ -1,4 +1,4 @@
-// The parts of a shape, and the shape with other parts.
+//! The parts of a shape, and the shape with other parts.
 
 ghost use Rattle.std.specs.Prelude.{◌≡◌, ◌++◌, ℕ, length, map, IfOk, List, OnOk};
 ghost use Rattle.asl_model.specs.Shape as model;

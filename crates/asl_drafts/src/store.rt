@@ -1,4 +1,4 @@
-// The table of a draft's shapes, with what is found out about them.
+//! The table of a draft's shapes, with what is found out about them.
 
 ghost use Rattle.std.specs.Prelude.{◌≡◌, ◌<◌, ◌↔◌, [], length, map, option_map, IfOk, IfSome, IsTrue, OnOk};
 ghost use Rattle.asl_model.specs.Edges.{walk};
@@ -253,7 +253,7 @@ impl Store {
         })
     }
 
-    // The number of the shape with that first level, if there is one.
+    /// The number of the shape with that first level, if there is one.
     fn put_level(&mut self, level: Option<Node>) -> Result<Option<usize>, OutOfMemory>
         requires { CanBePut (length self.old) level }
         ensures number { IfOk result (IsPut self.old level self.new) }
@@ -265,7 +265,7 @@ impl Store {
         }
     }
 
-    // The number of the shape of these kinds.
+    /// The number of the shape of these kinds.
     fn put_kinds(&mut self, kinds: KindNumbers) -> Result<usize, OutOfMemory>
         ensures number { IfOk result (Shows self.new (kinds_at self.old kinds)) }
         ensures keeps { Keeps self.old self.new }

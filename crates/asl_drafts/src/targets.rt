@@ -1,4 +1,4 @@
-// The shapes of a draft that the edges of states lead to.
+//! The shapes of a draft that the edges of states lead to.
 
 ghost use Rattle.std.specs.Prelude.{◌≡◌, option_map};
 ghost use Rattle.asl_model.specs.Edges as model;
@@ -29,7 +29,7 @@ pub(crate) fn target_of(
     }
 }
 
-// That of the input of the state of that name, if the machine has one.
+/// That of the input of the state of that name, if the machine has one.
 fn input_named(machine: &Machine, name: &str) -> Option<Target>
     ensures { option_map target_view result
         ≡ drafts.target_of (table_view machine.now) 0 (model.ToInput name.now) }
@@ -40,8 +40,8 @@ fn input_named(machine: &Machine, name: &str) -> Option<Target>
     }
 }
 
-// That of the end of the scope in which the state of that number stands, if it stands in one: that of the machine's
-// output, or of the end of a child of the state that the scope belongs to.
+/// That of the end of the scope in which the state of that number stands, if it stands in one: that of the machine's
+/// output, or of the end of a child of the state that the scope belongs to.
 fn scope_end(machine: &Machine, number: usize) -> Option<Target>
     ensures { option_map target_view result
         ≡ drafts.target_of (table_view machine.now) number model.ToEnd }

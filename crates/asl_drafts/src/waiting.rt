@@ -1,4 +1,4 @@
-// The states that are still to be walked.
+//! The states that are still to be walked.
 
 ghost use Rattle.std.specs.Prelude.{◌≡◌, IfOk, length, replicate, slice_set, true};
 ghost use Rattle.asl_drafts.specs.Waiting.{ArePlaced, AreQueued, AreTurnsAt};
@@ -94,7 +94,7 @@ impl Waiting {
     }
 }
 
-// So many states wait.
+/// So many states wait.
 fn all_waiting(alloc: Global, count: usize) -> Result<Vec<bool>, OutOfMemory>
     ensures { IfOk result (λ waits. waits.items ≡ replicate count true) }
 {
@@ -105,7 +105,7 @@ fn all_waiting(alloc: Global, count: usize) -> Result<Vec<bool>, OutOfMemory>
     Ok(waits)
 }
 
-// Where each of so many states stands in the order. A state that doesn't stand there has the place behind its end.
+/// Where each of so many states stands in the order. A state that doesn't stand there has the place behind its end.
 fn places_in(alloc: Global, count: usize, order: &[usize]) -> Result<Vec<usize>, OutOfMemory>
     ensures many { IfOk result (λ places. length places.items ≡ count) }
     ensures placed { IfOk result (λ places. ArePlaced order.now places.items) }
@@ -117,7 +117,7 @@ fn places_in(alloc: Global, count: usize, order: &[usize]) -> Result<Vec<usize>,
     Ok(places)
 }
 
-// The state of that number stands at the place, if there is such a state.
+/// The state of that number stands at the place, if there is such a state.
 fn put(places: &mut Vec<usize>, number: usize, place: usize)
     ensures { places.new.items ≡ slice_set places.old.items number place }
 {
@@ -126,7 +126,7 @@ fn put(places: &mut Vec<usize>, number: usize, place: usize)
     }
 }
 
-// The turns at these places.
+/// The turns at these places.
 fn turns_at(alloc: Global, places: &[usize]) -> Result<BTreeSet<usize>, OutOfMemory>
     ensures { IfOk result (AreTurnsAt places.now (length places.now)) }
 {

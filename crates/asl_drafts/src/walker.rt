@@ -1,4 +1,4 @@
-// A draft whose states are walked until nothing changes.
+//! A draft whose states are walked until nothing changes.
 
 ghost use Rattle.asl_drafts.specs.Walker.{HaveWoken, PredecessorsWait, ReaderWaits, StaysWaiting};
 
@@ -65,7 +65,7 @@ impl Walker {
         Ok(changed)
     }
 
-    // Takes in what flows at the step of that origin, if something does, and says whether a shape was changed.
+    /// Takes in what flows at the step of that origin, if something does, and says whether a shape was changed.
     fn take_step(
         &mut self,
         machine: &Machine,
@@ -90,7 +90,7 @@ impl Walker {
         }
     }
 
-    // Takes in what flows along the edge of that origin, remembers it, and says whether a shape was changed.
+    /// Takes in what flows along the edge of that origin, remembers it, and says whether a shape was changed.
     fn take_edge(
         &mut self,
         machine: &Machine,
@@ -146,7 +146,7 @@ impl Walker {
         Ok(changed)
     }
 
-    // The state that looks at that shape when it is walked waits: none looks at its own output or at the machine's.
+    /// The state that looks at that shape when it is walked waits: none looks at its own output or at the machine's.
     fn wake_reader(&mut self, target: Target) -> Result<(), OutOfMemory>
         ensures waits { StaysWaiting self.old.waiting self.new.waiting }
         ensures reader { OnOk result
@@ -160,8 +160,8 @@ impl Walker {
         }
     }
 
-    // The states wait that would change that shape by what flowed out of them when they were walked last: a join may
-    // undo what another one did.
+    /// The states wait that would change that shape by what flowed out of them when they were walked last: a join may
+    /// undo what another one did.
     fn wake_predecessors(&mut self, target: Target) -> Result<(), OutOfMemory>
         ensures waits { StaysWaiting self.old.waiting self.new.waiting }
         ensures again { OnOk result

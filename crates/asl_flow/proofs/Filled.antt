@@ -1,6 +1,6 @@
 -- What templates are filled to: the numbers of the shapes of the values of elements and fields that are gone through, with
 -- all their doubts.
-use Rattle.std.proofs.Common.{◌≡◌, ℕ, ◌<◌, ◌≤◌, List, [], ◌∷◌, ◌++◌, length, map, take, Option, Result, Ok, Err, Vec, String, Global, true, string_bytes, string_cmp, refl, sym, ap, subst, ◌∙◌, append_assoc, rules, arith}
+use Rattle.std.proofs.Common.{◌≡◌, ℕ, ◌≤◌, List, [], ◌∷◌, ◌++◌, length, map, take, Option, Result, Ok, Err, Vec, String, Global, true, string_bytes, string_cmp, refl, sym, ap, subst, ◌∙◌, append_assoc, rules}
 use Rattle.std.proofs.lemmas.List.{append-nil, take_all}
 use Rattle.std.specs.Prelude.{IfOk}
 use Rattle.std.specs.BTreeMap.{BTreeMap}
@@ -9,16 +9,15 @@ use Rattle.std.specs.Map.{keys_of}
 use Rattle.std.specs.Prelude.{IfOk}
 use Rattle.asl_model.specs.Shape as model
 use Rattle.asl_model.specs.ShapeFlow as flow
-use Rattle.asl_model.specs.ShapeFlow.{doubts, element_doubts, field_doubts, filled_shape, filled_elements, filled_fields, template_shape, template_flow, unless_doubts}
+use Rattle.asl_model.specs.ShapeFlow.{doubts, element_doubts, field_doubts, filled_shape, filled_elements, filled_fields, template_flow}
 use Rattle.asl_model.specs.ShapeOrder.{set_mention}
 use Rattle.asl_model.specs.Template as template
 use Rattle.asl_numbered.specs.declared.node.NodeField.{NodeField}
-use Rattle.asl_numbered.specs.Expansion.{AreNumbersOf, AreFieldsOf, Keeps, Shows}
-use Rattle.asl_template.proofs.Values.{Entry}
+use Rattle.asl_numbered.specs.Expansion.{AreNumbersOf, AreFieldsOf, Keeps}
 use Rattle.asl_template.specs.View.{view, elements_view, entries_view}
 use Rattle.asl_template.specs.declared.template.Template.{Template, the_lemmas}
 use Rattle.asl_template.specs.declared.template.Template as code
-use Rattle.asl_flow.specs.Doubts.{fault_of, AreDoubtsBelow, IsFlowIn}
+use Rattle.asl_flow.specs.Doubts.{fault_of, IsFlowIn}
 use Rattle.asl_flow.specs.Leaving.{FlowsTo}
 use Rattle.asl_flow.specs.TemplateAnswer.{told_at, named_fault, ArePutDown, IsFilled}
 use Rattle.asl_flow.specs.declared.doubts.Doubt.{Doubt}
@@ -27,10 +26,9 @@ use Rattle.asl_flow.proofs.PutDoubts.{Told, put_behind}
 use Rattle.asl_flow.proofs.Needed.{needed_by, set_in_order}
 use Rattle.asl_numbered.specs.Names.{Name}
 
--- no doubt is added for none
-none_added : (table : List model.Shape) (added : List Doubt) → [] ≡ map (named_fault table) added → added ≡ []
-none_added table [] e = refl
-none_added table (d ∷ added) e = absurd (cc)
+-- an entry of a template
+abbrev pub Entry : Type 0
+Entry = String Global × Template
 
 module _ (input : model.Shape) (item : Option model.Shape) where
   -- the shape of a template's value
@@ -94,32 +92,6 @@ module _ (input : model.Shape) (item : Option model.Shape) where
       let whole : all ≡ done = split ∙ ap (λ es. done ++ es) none ∙ append-nil done in
       subst (λ ms. AreFieldsOf table ms fs) (ap (needed_by of_value) (sym whole) ∙ sym (fields_shown all sorted)) are
 
-  -- ---- the whole template, of an input that some tree has
-
-  module _ (table : List model.Shape) (t : template.Template) (field : List ℕ) (v : Vec Doubt Global) (live : true ≡ model.inhabited input) (put : ArePutDown table field (doubts t [] input item) [] v.items) where
-    -- without a doubt it has its shape
-    pub without_doubt : (n : ℕ) → v.items ≡ [] → Shows table (filled_shape t input item) n → IsFilled table field (template_shape t input item) (Ok n)
-    without_doubt n none shows = rw (← live) (go (doubts t [] input item) put)
-      where
-        go : (told : Told) → ArePutDown table field told [] v.items → IsFilled table field (unless_doubts told (filled_shape t input item)) (Ok n)
-        go [] h = sym shows.same
-        go (first ∷ told) h =
-            let added : h.added ≡ [] = sym h.whole ∙ none in
-            let same : told_at field first ∷ map (told_at field) told ≡ [] = rw added at h.same in
-            absurd (cc)
-
-    -- and else its doubts
-    pub with_doubts : 0 < length v.items → IsFilled table field (template_shape t input item) (Err v)
-    with_doubts some = rw (← live) (go (doubts t [] input item) put)
-      where
-        go : (told : Told) → ArePutDown table field told [] v.items → IsFilled table field (unless_doubts told (filled_shape t input item)) (Err v)
-        go [] h = absurd (omega (arith, some, ap length (h.whole ∙ none_added table h.added h.same)))
-        go (first ∷ told) h = rw h.whole h.same
-
-    -- which speak of shapes of the table
-    pub doubts_within : 0 < length v.items → IsFlowIn (length table) (Err v)
-    doubts_within some = record { within = tt; some = some; below = subst (AreDoubtsBelow (length table)) (sym put.whole) put.below }
-
 -- ---- what a template comes to, as a flow
 
 module _ (table : List model.Shape) (field : List ℕ) where
@@ -139,11 +111,6 @@ module _ (table : List model.Shape) (field : List ℕ) where
   filled_flows (Ok s) (Err v) is within = absurd is
   filled_flows (Err told) (Ok n) is within = absurd is
   filled_flows (Err told) (Err v) is within = record { same = ap Err (faults-told told v.items is); within = within }
-
-  -- so where memory suffices
-  pub filled_where : {E : Type 0} (answer : Result model.Shape Told) (r : Result (Result ℕ (Vec Doubt Global)) E) → IfOk r (IsFilled table field answer) → IfOk r (IsFlowIn (length table)) → IfOk r (FlowsTo table (template_flow field answer))
-  filled_where answer (Ok given) is within = filled_flows answer given is within
-  filled_where answer (Err e) is within = tt
 
   -- so where memory suffices
   pub flows_where_filled : {E : Type 0} (answer : Result model.Shape Told) (given : Result (Result ℕ (Vec Doubt Global)) E) → IfOk given (IsFilled table field answer) → IfOk given (IsFlowIn (length table)) → IfOk given (FlowsTo table (template_flow field answer))

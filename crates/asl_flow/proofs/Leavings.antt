@@ -1,5 +1,5 @@
 -- What a shape on its way through a state comes to, step after step.
-use Rattle.std.proofs.Common.{◌≡◌, ◌∷◌, [], ℕ, ◌<◌, length, List, Result, Ok, Err, Bool, true, ◌&&◌, Vec, Global, codes, if◌then◌else◌, sym, ap, ◌∙◌, subst}
+use Rattle.std.proofs.Common.{◌≡◌, ◌∷◌, [], ℕ, ◌<◌, length, List, Result, Ok, Err, true, ◌&&◌, Vec, Global, codes, sym, ap, ◌∙◌, subst}
 use Rattle.std.specs.Prelude.{IfOk}
 use Rattle.asl_model.specs.Shape as shapes
 use Rattle.asl_model.specs.Machine.{Settings}
@@ -53,10 +53,6 @@ module _ (one two : List shapes.Shape) (flow : shapes.Shape → shapes.Shape →
 
 -- ---- one step after the other
 
--- doubts of the first step
-pub stopped_first : (table : List shapes.Shape) (go_on : shapes.Shape → model.Flow) (first : model.Flow) (doubts : Vec Doubt Global) → FlowsTo table first (Err doubts) → FlowsTo table (model.flow_then go_on first) (Err doubts)
-stopped_first table go_on first doubts h = record { same = ap (model.flow_then go_on) h.same; within = h.within }
-
 -- the second step, after the first
 pub goes_on : (middle table : List shapes.Shape) (go_on : shapes.Shape → model.Flow) (first : model.Flow) (n : ℕ) (answer : Answer) → FlowsTo middle first (Ok n) → FlowsTo table (go_on (shape_at middle n)) answer → FlowsTo table (model.flow_then go_on first) answer
 goes_on middle table go_on first n answer h next = rw h.same next
@@ -64,10 +60,6 @@ goes_on middle table go_on first n answer h next = rw h.same next
 -- a step from a shape that stood in the table before
 pub still_flows : (old middle table : List shapes.Shape) (go_on : shapes.Shape → model.Flow) (raw : ℕ) (answer : Answer) → Keeps old middle → raw < length old → FlowsTo table (go_on (shape_at middle raw)) answer → FlowsTo table (go_on (shape_at old raw)) answer
 still_flows old middle table go_on raw answer keeps within h = subst (λ s. FlowsTo table (go_on s) answer) (kept_shape old middle raw keeps within) h
-
--- a way whose shapes some tree has
-pub flows_where : (table : List shapes.Shape) (b : Bool) (way : model.Flow) (answer : Answer) → b ≡ true → FlowsTo table way answer → FlowsTo table (if b then way else Ok shapes.Never) answer
-flows_where table b way answer is h = rw is h
 
 -- ---- a path
 
@@ -90,23 +82,6 @@ module _ (settings : Settings) (old : List shapes.Shape) (raw work : ℕ) (there
   abbrev placing : shapes.Shape → shapes.Shape → model.Flow
   placing = model.through_placing (codes "ResultPath") settings.result_path
 
-  -- doubts of `ResultSelector`
-  pub stopped_selecting : (table : List shapes.Shape) (doubts : Vec Doubt Global) → FlowsTo table selecting (Err doubts) → FlowsTo table (model.result_leaves settings v x) (Err doubts)
-  stopped_selecting table doubts h =
-      let whole = stopped_first table (model.output_flow settings) (model.flow_then (placing v) selecting) doubts (stopped_first table (placing v) selecting doubts h) in
-      flows_where table (shapes.inhabited v && shapes.inhabited x) (model.result_flow settings v x) (Err doubts) there whole
-
   module _ (one : List shapes.Shape) (n : ℕ) (keeps : Keeps old one) (within : raw < length old) (selected : FlowsTo one selecting (Ok n)) where
     placed : (table : List shapes.Shape) (answer : Answer) → FlowsTo table (placing (shape_at one raw) (shape_at one n)) answer → FlowsTo table (model.flow_then (placing v) selecting) answer
     placed table answer h = goes_on one table (placing v) selecting n answer selected (still_flows old one table (λ s. placing s (shape_at one n)) raw answer keeps within h)
-
-    -- a doubt of `ResultPath`
-    pub stopped_placing : (table : List shapes.Shape) (doubts : Vec Doubt Global) → FlowsTo table (placing (shape_at one raw) (shape_at one n)) (Err doubts) → FlowsTo table (model.result_leaves settings v x) (Err doubts)
-    stopped_placing table doubts h =
-        let whole = stopped_first table (model.output_flow settings) (model.flow_then (placing v) selecting) doubts (placed table (Err doubts) h) in
-        flows_where table (shapes.inhabited v && shapes.inhabited x) (model.result_flow settings v x) (Err doubts) there whole
-
-    -- what `OutputPath` makes of the rest
-    pub flows_out : (two table : List shapes.Shape) (m : ℕ) (answer : Answer) → FlowsTo two (placing (shape_at one raw) (shape_at one n)) (Ok m) → FlowsTo table (model.output_flow settings (shape_at two m)) answer → FlowsTo table (model.result_leaves settings v x) answer
-    flows_out two table m answer whole h =
-        flows_where table (shapes.inhabited v && shapes.inhabited x) (model.result_flow settings v x) answer there (goes_on two table (model.output_flow settings) (model.flow_then (placing v) selecting) m answer (placed two (Ok m) whole) h)

@@ -1,10 +1,10 @@
 -- Examples in which a path is made to name nothing.
-use Rattle.std.proofs.Common.{◌≡◌, ◌↔◌, ℕ, zero, suc, ◌+◌, ◌-◌, ◌<◌, ◌≤◌, List, [], ◌∷◌, length, take, drop, Bool, true, false, Option, Some, None, Result, Ok, Err, IfOk, IfSome, IsErr, is_ok, option_map, refl, sym, ap, subst, ◌∙◌, arith}
+use Rattle.std.proofs.Common.{◌≡◌, ◌↔◌, ℕ, zero, suc, ◌+◌, ◌-◌, ◌<◌, ◌≤◌, List, [], ◌∷◌, length, take, drop, Bool, true, false, Option, Some, None, Result, Ok, Err, IfOk, IfSome, IsErr, is_ok, option_map, refl, sym, ap, ◌∙◌, arith}
 use Rattle.std.proofs.lemmas.List.{take_all}
-use Rattle.std.specs.Prelude.{IsTrue, IsSome}
+use Rattle.std.specs.Prelude.{IsTrue}
 use Rattle.asl_model.proofs.ShapeMissing.{part-inhabited, example-part, field-placed, element-placed}
 use Rattle.asl_model.specs.Examples.{example}
-use Rattle.asl_model.specs.Missing.{missing, missing_at, example_without, IsMissing}
+use Rattle.asl_model.specs.Missing.{missing, missing_at, IsMissing}
 use Rattle.asl_model.specs.Path.{Segment, Name, Index}
 use Rattle.asl_model.specs.Placing.{set_field, set_element}
 use Rattle.asl_model.specs.Shape.{Shape, IsOrdered, inhabited}
@@ -39,20 +39,6 @@ module _ (path : List Segment) (s : Shape) where
   pub refused_there : (table : List Shape) (r : Result ℕ ℕ) → shown table r ≡ look_at path s → is_ok r ≡ false → IsErr (look_at path s)
   refused_there table (Ok n) is lost = absurd (cc)
   refused_there table (Err at) is lost = rw (← is) refl
-
-  -- of a shape that no tree has there is none
-  pub never_missing : (r : Option code.Tree) → r ≡ None → (IsSome r ↔ IsTrue (inhabited s)) → None ≡ missing path s
-  never_missing r is exactly = go (inhabited s) refl
-    where
-      go : (live : Bool) → inhabited s ≡ live → None ≡ missing path s
-      go false none = rw none refl
-      go true live =
-          let some : false ≡ true = subst IsSome is (exactly.1 live) in
-          absurd (cc)
-
-  -- the tree that is made of the example
-  pub some_missing : (t : Tree) → IsTrue (inhabited s) → missing_at path s ≡ Some t → Some t ≡ missing path s
-  some_missing t live is = rw live (sym is)
 
   -- what the law says of it
   pub missing_told : (r : Option code.Tree) → option_map view r ≡ missing path s → ((t : Tree) → missing path s ≡ Some t → IsMissing path s t) → IfSome r (λ t. IsMissing path s (view t))
@@ -89,13 +75,6 @@ module _ (path rest : List Segment) (segment : Segment) (whole : segment ∷ res
       some = part-inhabited segment s part (sym at) is.some;
       there = rw (is.same) (example-part segment s part (sym at) ordered is.some);
     }
-
-    pub missing_behind_it : (t u : Tree) → IsExample s t → missing_under segment rest part t ≡ Some u → missing_at path s ≡ Some u
-    missing_behind_it t u is made = rw (← whole, ← at) (rw (is.same) at made)
-
-  -- where the first leads nowhere
-  pub missing_here : (t u : Tree) → None ≡ part_at segment s → example_without segment s ≡ u → missing_at path s ≡ Some u
-  missing_here t u at made = rw (← whole, ← at) (ap Some made)
 
 module _ (rest : List Segment) (part : Shape) (w : Tree) (made : missing_at rest part ≡ Some w) where
   -- placed in the field of that name

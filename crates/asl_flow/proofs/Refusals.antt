@@ -8,7 +8,7 @@ use Rattle.asl_tree.specs.declared.Tree.{Tree}
 use Rattle.asl_tree.specs.View.{view}
 use Rattle.asl_flow.specs.Counterexamples.{IsShownBy}
 use Rattle.asl_flow.specs.Doubts.{doubtful_view, cause_at, fault_of, flow_view, AreDoubtsBelow, IsCauseBelow, IsCauseIn, IsFlowIn}
-use Rattle.asl_flow.specs.Leaving.{first_fault, IsStopped}
+use Rattle.asl_flow.specs.Leaving.{first_fault}
 use Rattle.asl_flow.specs.TemplateAnswer.{told_at, named_fault, first_doubt, IsDoubted, IsFilled}
 use Rattle.asl_flow.specs.declared.doubts.Cause.{Cause}
 use Rattle.asl_flow.specs.declared.doubts.Cause.TheVariants.{MayBeMissing, MayFail, MayNotFit}
@@ -109,14 +109,6 @@ module _ (table : List Shape) (d : Doubt) (name : String Global) (named : string
           ap model.MayBeMissing same
       go model.MayFail e = absurd (cc)
 
-  -- a call that may fail
-  pub failure_told : d.cause ≡ MayFail → IsDoubted (Err (one ∷ [])) (refusal.MayFail name)
-  failure_told at = ap Some (together one (string_bytes name) model.MayFail own-name (go one.1 (own-fault ∙ ap (cause_at table d.field.now) at)))
-    where
-      go : (doubt : model.Doubt) → model.doubt_fault field doubt ≡ model.FailsAt d.field.now → doubt ≡ model.MayFail
-      go (model.MayBeMissing other) e = absurd (cc)
-      go model.MayFail e = refl
-
   -- a template places nothing
   pub nothing_placed : d.cause ≡ MayNotFit → ⊥
   nothing_placed at = go one.1 (own-fault ∙ ap (cause_at table d.field.now) at)
@@ -126,13 +118,6 @@ module _ (table : List Shape) (d : Doubt) (name : String Global) (named : string
       go model.MayFail e = absurd (cc)
 
 -- ---- the way out of a state
-
--- a fault tells the first one alone
-same-stopped : (flow other : model.Flow) (told : FlowFault) → first_fault flow ≡ first_fault other → IsStopped other told → IsStopped flow told
-same-stopped flow other (fault.MayBeMissing field t) same h = (h.0, same ∙ h.1, h.2)
-same-stopped flow other (fault.MayFail field) same h = same ∙ h
-same-stopped flow other (fault.MayNotFit field) same h = same ∙ h
-same-stopped flow other fault.OutOfMemory same h = tt
 
 module _ (table : List Shape) (flow : model.Flow) (v : Vec Doubt Global) (d : Doubt) (stopped : flow ≡ flow_view table (Err v)) (within : IsFlowIn (length table) (Err v)) (is : d ≡ get_or v.items 0 d) where
   first-stops : first_fault flow ≡ Some (fault_of table d)
@@ -149,7 +134,3 @@ module _ (table : List Shape) (flow : model.Flow) (v : Vec Doubt Global) (d : Do
       go : (f : model.Flow) → IfErr f AreFaultsOfRefused → first_fault f ≡ Some (fault_of table d) → IsFaultOfRefused (fault_of table d)
       go (Ok s) each at = absurd (cc)
       go (Err faults) each at = first-has IsFaultOfRefused faults (fault_of table d) each at
-
-  -- and what is told of it is told of the way
-  pub way_told : (told : FlowFault) → IsStopped (Err (fault_of table d ∷ [])) told → IsStopped flow told
-  way_told told h = same-stopped flow (Err (fault_of table d ∷ [])) told first-stops h

@@ -1,12 +1,12 @@
 -- Shapes narrowed by a test of a kind: what is left of the kind that is tested, and what the whole is with it.
-use Rattle.std.proofs.Common.{◌≡◌, ℕ, List, Bool, true, false, Result, Ok, Err, IsOk, refl, sym, ◌∙◌}
+use Rattle.std.proofs.Common.{◌≡◌, ℕ, List, Bool, false, Result, Ok, Err, IsOk, refl, sym, ◌∙◌}
 use Rattle.asl_model.proofs.ShapeNarrow.{narrows}
 use Rattle.asl_model.specs.Path.{Segment}
 use Rattle.asl_model.specs.Shape.{Shape, Never, inhabited}
-use Rattle.asl_model.specs.ShapeFlow.{DoubtfulPath, look_at, or_doubtful, put, by_kind, true_of}
+use Rattle.asl_model.specs.ShapeFlow.{look_at, put, by_kind, true_of}
 use Rattle.asl_model.specs.Test.{ValueKind, IsOfKind}
 use Rattle.asl_flow.proofs.DoubtfulPaths.{put_never}
-use Rattle.asl_flow.proofs.FoundPaths.{found_there, found_never}
+use Rattle.asl_flow.proofs.FoundPaths.{found_never}
 use Rattle.asl_numbered.specs.Expansion.{IsNumberOf, Shows}
 use Rattle.asl_numbered.specs.Laws.{number_shows}
 use Rattle.asl_tree.specs.declared.OutOfMemory.{OutOfMemory}
@@ -27,14 +27,6 @@ module _ (path : List Segment) (kind : ValueKind) (wanted : Bool) (s : Shape) wh
   -- a shape without a tree stays so
   pub never_tested : false ≡ inhabited s → true_of (IsOfKind path kind wanted) s ≡ Ok Never
   never_tested none = rw (found_never path s none, put_never path (by_kind kind wanted Never) s (sym none)) refl
-
-  -- where the path is found, what it names is narrowed
-  pub part_tested : (part r : Shape) → true ≡ inhabited s → or_doubtful path s (look_at path s) ≡ Ok part → put path (by_kind kind wanted part) s ≡ Ok r → true_of (IsOfKind path kind wanted) s ≡ Ok r
-  part_tested part r live is placed = rw (found_there path s (Ok part) live is, placed) refl
-
-  -- a doubtful path is told
-  pub doubt_tested : (d : DoubtfulPath) → true ≡ inhabited s → or_doubtful path s (look_at path s) ≡ Err d → true_of (IsOfKind path kind wanted) s ≡ Err d
-  doubt_tested d live is = rw (found_there path s (Err d) live is) refl
 
 -- the number of a shape shows an equal one
 pub put_shown : (table : List Shape) (s t : Shape) (r : Result ℕ OutOfMemory) → s ≡ t → IfOk r (IsNumberOf table s) → IfOk r (Shows table t)

@@ -10,7 +10,11 @@ use Rattle.asl_flow.specs.declared.leaving.FlowFault.{FlowFault}
 use Rattle.asl_flow.specs.declared.leaving.FlowFault.TheVariants.{MayBeMissing, MayFail, MayNotFit, OutOfMemory}
 use Rattle.asl_flow.specs.declared.leaving.Leaving.{Leaving}
 use Rattle.asl_flow.specs.declared.leaving.Leaving.TheVariants.{WithResult, WithInput, Nothing}
-use Rattle.asl_model.specs.Shape.{Shape}
+use Rattle.asl_model.specs.Flow.{at_output_path, output_of}
+use Rattle.asl_model.specs.Shape.{Shape, Has}
+use Rattle.asl_model.specs.Tree.{Tree}
+use Rattle.asl_states.specs.Machine.{settings_view, kind_view}
+use Rattle.asl_states.specs.declared.states.State.{State}
 
 -- what leaves a state
 abbrev pub leaving_of : Leaving → model.Leaving
@@ -22,6 +26,24 @@ leaving_of Nothing = model.Nothing
 pub record FlowsTo (table : List Shape) (flow : model.Flow) (answer : Result ℕ (Vec Doubt Global)) : Type 0 where
   pub same : flow ≡ flow_view table answer
   pub within : IsFlowIn (length table) answer
+
+-- what the way out of a state comes to, for the shapes of its raw input and of its work
+abbrev pub way_out : State → Shape → Shape → model.Flow
+way_out state raw work = model.leave (settings_view state.settings) (kind_view state.kind) raw work
+
+-- Where a state's result leaves it: each raw input and each result of those shapes come to an output, which has that shape.
+abbrev pub ResultLeaves : State → Shape → Shape → Shape → Type 0
+ResultLeaves state raw work s =
+    model.leaving (kind_view state.kind) ≡ model.WithResult
+    → (v x : Tree) → Has raw v → Has work x
+    → (u : Tree) × (output_of (settings_view state.settings) v x ≡ Ok u) × Has s u
+
+-- the same where its effective input leaves it, by `OutputPath` alone
+abbrev pub InputLeaves : State → Shape → Shape → Shape → Type 0
+InputLeaves state raw work s =
+    model.leaving (kind_view state.kind) ≡ model.WithInput
+    → (v x : Tree) → Has raw v → Has work x
+    → (u : Tree) × (at_output_path (settings_view state.settings) x ≡ Ok u) × Has s u
 
 -- the first of the faults that stop a shape; None: it comes through
 abbrev pub first_fault : model.Flow → Option model.FlowFault

@@ -87,7 +87,7 @@ pub(crate) fn counterexample_at(
     }
 }
 
-// A tree of the shape in which the path names nothing, where there is one.
+/// A tree of the shape in which the path names nothing, where there is one.
 fn example_without(
     alloc: Global,
     shapes: &mut Shapes,
@@ -109,7 +109,7 @@ fn example_without(
     Ok(Some(tree))
 }
 
-// Makes of a shape's example the tree in which the segments name nothing.
+/// Makes of a shape's example the tree in which the segments name nothing.
 #[cycle(leave_out)]
 fn leave_out(
     alloc: Global,
@@ -137,7 +137,7 @@ fn leave_out(
     }
 }
 
-// Makes of the example of a part, which stands at the segment, the tree in which the segments behind it name nothing.
+/// Makes of the example of a part, which stands at the segment, the tree in which the segments behind it name nothing.
 #[cycle(leave_out)]
 fn leave_out_behind(
     alloc: Global,
@@ -170,7 +170,7 @@ fn leave_out_behind(
     }
 }
 
-// The same of the field of that name.
+/// The same of the field of that name.
 #[cycle(leave_out)]
 fn leave_out_of_field(
     alloc: Global,
@@ -196,7 +196,7 @@ fn leave_out_of_field(
     leave_out(alloc, shapes, part, rest, field)
 }
 
-// The same of the element at that place.
+/// The same of the element at that place.
 #[cycle(leave_out)]
 fn leave_out_of_element(
     alloc: Global,
@@ -219,7 +219,7 @@ fn leave_out_of_element(
     leave_out(alloc, shapes, part, rest, &mut elements[index as usize])
 }
 
-// Puts an example of the kinds that the segment doesn't go into in place of the shape's example, where they have one.
+/// Puts an example of the kinds that the segment doesn't go into in place of the shape's example, where they have one.
 fn leave_out_here(
     alloc: Global,
     shapes: &mut Shapes,
@@ -248,7 +248,7 @@ fn leave_out_here(
     }
 }
 
-// The kinds without the one that the segment goes into.
+/// The kinds without the one that the segment goes into.
 fn not_gone_into(kinds: KindNumbers, segment: &Segment) -> KindNumbers
     ensures { (table : List shape.Shape) → kinds_at table result
         ≡ model.not_gone_into (segment_view segment.now) (kinds_at table kinds) }

@@ -1,4 +1,4 @@
-// The numbers of the shapes of the elements of an array, and of lists that a state gives.
+//! The numbers of the shapes of the elements of an array, and of lists that a state gives.
 
 ghost use Rattle.std.specs.Prelude.{◌≡◌, ◌<◌, IfOk, IfSome, if◌then◌else◌, length, map, option_map};
 ghost use Rattle.asl_flow.specs.Elements.{elements_view, AreElementsBelow};

@@ -1,4 +1,4 @@
-// The number of the shape of a state's effective input, and of the input of a Map's children.
+//! The number of the shape of a state's effective input, and of the input of a Map's children.
 
 ghost use Rattle.std.specs.Prelude.{◌≡◌, ◌<◌, IfOk, length, option_map};
 ghost use Rattle.asl_flow.specs.Doubts.{flow_view, IsFlowIn};

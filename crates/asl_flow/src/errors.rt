@@ -1,4 +1,4 @@
-// The number of the shape of the error output, which catchers place.
+//! The number of the shape of the error output, which catchers place.
 
 ghost use Rattle.std.specs.Prelude.{◌≡◌, IfOk, true};
 ghost use Rattle.asl_model.specs.Finding.{error_output_shape};

@@ -1,13 +1,10 @@
-// The shape of a state's output.
+//! The shape of a state's output.
 
 ghost use Rattle.std.specs.Prelude.{◌≡◌, ◌<◌, ◌∷◌, [], Err, Ok, IfOk, IfErr, length, codes};
-ghost use Rattle.asl_model.specs.Flow.{at_output_path, output_of};
-ghost use Rattle.asl_model.specs.Shape.{Has};
 ghost use Rattle.asl_model.specs.ShapeFlow as model;
-ghost use Rattle.asl_model.specs.Tree as trees;
 ghost use Rattle.asl_states.specs.Machine.{settings_view, kind_view};
 ghost use Rattle.asl_flow.specs.Doubts.{fault_of, flow_view, IsCauseIn, IsFlowIn};
-ghost use Rattle.asl_flow.specs.Leaving.{FlowsTo, IsStopped, leaving_of};
+ghost use Rattle.asl_flow.specs.Leaving.{FlowsTo, InputLeaves, IsStopped, ResultLeaves, leaving_of, way_out};
 ghost use Rattle.asl_numbered.specs.Expansion.{shape_at, IsNumberOf, Keeps};
 ghost use Rattle.asl_shape.specs.View.{view};
 
@@ -56,22 +53,13 @@ impl From<OutOfMemory> for FlowFault {
 /// that shows it; `OutOfMemory` comes only where an allocation was refused, of that tree too.
 pub fn leave(alloc: Global, state: &State, raw: &Shape, work: &Shape) -> Result<Shape, FlowFault>
     ensures as_defined { IfOk result
-        (λ s. model.leave (settings_view state.now.settings) (kind_view state.now.kind)
-        (view raw.now) (view work.now) ≡ Ok (view s)) }
+        (λ s. way_out state.now (view raw.now) (view work.now) ≡ Ok (view s)) }
     ensures result_leaves { IfOk result
-        (λ s. model.leaving (kind_view state.now.kind) ≡ model.WithResult
-        → (v x : trees.Tree) → Has (view raw.now) v → Has (view work.now) x
-        → (u : trees.Tree) × (output_of (settings_view state.now.settings) v x ≡ Ok u)
-        × Has (view s) u) }
+        (λ s. ResultLeaves state.now (view raw.now) (view work.now) (view s)) }
     ensures input_leaves { IfOk result
-        (λ s. model.leaving (kind_view state.now.kind) ≡ model.WithInput
-        → (v x : trees.Tree) → Has (view raw.now) v → Has (view work.now) x
-        → (u : trees.Tree) × (at_output_path (settings_view state.now.settings) x ≡ Ok u)
-        × Has (view s) u) }
+        (λ s. InputLeaves state.now (view raw.now) (view work.now) (view s)) }
     ensures refused { IfErr result
-        (IsStopped
-        (model.leave (settings_view state.now.settings) (kind_view state.now.kind)
-        (view raw.now) (view work.now))) }
+        (IsStopped (way_out state.now (view raw.now) (view work.now))) }
 {
     leave_means_an_output();
     let mut shapes = Shapes::new(alloc);
@@ -93,12 +81,11 @@ pub fn leave_at(
     requires raw { raw < length shapes.old }
     requires work { work < length shapes.old }
     ensures as_defined { IfOk result
-        (λ n. model.leave (settings_view state.now.settings) (kind_view state.now.kind)
-        (shape_at shapes.old raw) (shape_at shapes.old work) ≡ Ok (shape_at shapes.new n)) }
+        (λ n. way_out state.now (shape_at shapes.old raw) (shape_at shapes.old work)
+        ≡ Ok (shape_at shapes.new n)) }
     ensures number { IfOk result (λ n. IsNumberOf shapes.new (shape_at shapes.new n) n) }
     ensures refused { IfErr result
-        (IsStopped (model.leave (settings_view state.now.settings) (kind_view state.now.kind)
-        (shape_at shapes.old raw) (shape_at shapes.old work))) }
+        (IsStopped (way_out state.now (shape_at shapes.old raw) (shape_at shapes.old work))) }
     ensures keeps { Keeps shapes.old shapes.new }
 {
     match output_at(alloc, shapes, state, raw, work)? {
@@ -120,8 +107,8 @@ pub fn output_at<'p>(
     requires raw { raw < length shapes.old }
     requires work { work < length shapes.old }
     ensures as_defined { IfOk result
-        (λ flow. model.leave (settings_view state.now.settings) (kind_view state.now.kind)
-        (shape_at shapes.old raw) (shape_at shapes.old work) ≡ flow_view shapes.new flow) }
+        (λ flow. way_out state.now (shape_at shapes.old raw) (shape_at shapes.old work)
+        ≡ flow_view shapes.new flow) }
     ensures within { IfOk result (IsFlowIn (length shapes.new)) }
     ensures number { IfOk result
         (λ flow. IfOk flow (λ n. IsNumberOf shapes.new (shape_at shapes.new n) n)) }

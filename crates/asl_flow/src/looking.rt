@@ -1,4 +1,4 @@
-// What a path leads to in the trees of a shape.
+//! What a path leads to in the trees of a shape.
 
 ghost use Rattle.std.specs.Prelude.{◌≡◌, ◌<◌, ◌↔◌, ℕ, false, Some, Ok, Err, IfOk, IfErr, length, option_map, string_bytes};
 ghost use Rattle.asl_model.specs.Path.{Name, Index, Names};

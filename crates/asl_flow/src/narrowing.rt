@@ -1,4 +1,4 @@
-// Narrowing the shape of a number to the trees in which a path names something.
+//! Narrowing the shape of a number to the trees in which a path names something.
 ghost use Rattle.asl_model.specs.Path.{Name, Index};
 ghost use Rattle.asl_model.specs.ShapeFlow.{narrow_under as narrowed_under, where_present};
 ghost use Rattle.asl_numbered.specs.Expansion.{shape_at, Keeps, Shows};
@@ -33,7 +33,7 @@ pub(crate) fn narrow_to_present(
     narrow_under(alloc, shapes, number, segment, rest)
 }
 
-// Narrows what stands under the segment, in the lists or in the objects of the shape.
+/// Narrows what stands under the segment, in the lists or in the objects of the shape.
 #[cycle(narrow)]
 fn narrow_under(
     alloc: Global,
@@ -55,8 +55,8 @@ fn narrow_under(
     }
 }
 
-// Narrows a field of the objects of the shape, which is needed then, and which must be mentioned unless they may have
-// further fields. Where the name names nothing in any tree, the shape is `Never`.
+/// Narrows a field of the objects of the shape, which is needed then, and which must be mentioned unless they may have
+/// further fields. Where the name names nothing in any tree, the shape is `Never`.
 #[cycle(narrow)]
 fn narrow_field(
     alloc: Global,
@@ -91,8 +91,8 @@ fn narrow_field(
     }
 }
 
-// Narrows a place of the lists of the shape, where it has a shape of its own; further elements stay as they are. Where no
-// list has the shape, it is `Never`.
+/// Narrows a place of the lists of the shape, where it has a shape of its own; further elements stay as they are. Where no
+/// list has the shape, it is `Never`.
 #[cycle(narrow)]
 fn narrow_place(
     alloc: Global,

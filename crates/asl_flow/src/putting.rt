@@ -1,4 +1,4 @@
-// The shape of a tree with another placed in it.
+//! The shape of a tree with another placed in it.
 
 ghost use Rattle.std.specs.Prelude.{◌≡◌, ◌+◌, ◌<◌, ◌^◌, ℕ, IfOk, IfSome, Ok, Err, true, false, length, option_map, string_bytes};
 ghost use Rattle.asl_model.specs.Path.{Name, Index};

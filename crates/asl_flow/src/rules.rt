@@ -1,4 +1,4 @@
-// The shape of the trees for which a rule's test is true.
+//! The shape of the trees for which a rule's test is true.
 ghost use Rattle.std.specs.Prelude.{◌≡◌, ◌<◌, Bool, IsTrue, Ok, IfErr, IfOk, Some, length};
 ghost use Rattle.asl_choice.specs.View.{operand_view, tests_view, view as test_view};
 ghost use Rattle.asl_flow.specs.Doubts.{found_view, IsFoundIn};
@@ -119,7 +119,7 @@ pub fn let_through_at<'p>(
     Ok(answer)
 }
 
-// Narrows the shape to the trees for which the test is true; of a shape without a tree the answer is `Never`.
+/// Narrows the shape to the trees for which the test is true; of a shape without a tree the answer is `Never`.
 #[cycle(narrow)]
 fn narrow_inhabited<'p>(
     alloc: Global,
@@ -140,7 +140,7 @@ fn narrow_inhabited<'p>(
     narrow(alloc, shapes, test, number)
 }
 
-// The same of a shape that some tree has.
+/// The same of a shape that some tree has.
 #[cycle(narrow)]
 fn narrow<'p>(
     alloc: Global,
@@ -180,7 +180,7 @@ fn narrow<'p>(
     }
 }
 
-// Narrows the shape by each test in turn; from a shape without a tree on the answer is `Never`.
+/// Narrows the shape by each test in turn; from a shape without a tree on the answer is `Never`.
 #[cycle(narrow)]
 fn narrow_by_all<'p>(
     alloc: Global,
@@ -205,7 +205,7 @@ fn narrow_by_all<'p>(
     Ok(Ok(narrowed))
 }
 
-// The number, or the first path by which one of the tests may be neither true nor false of a tree of its shape.
+/// The number, or the first path by which one of the tests may be neither true nor false of a tree of its shape.
 #[cycle(narrow)]
 fn check_all<'p>(
     alloc: Global,
@@ -230,8 +230,8 @@ fn check_all<'p>(
     Ok(Ok(number))
 }
 
-// The number, or the first path by which the test may be neither true nor false of a tree of its shape. `IsPresent` always
-// is one of them, and a test of a kind where its path is found, so nothing is narrowed for these.
+/// The number, or the first path by which the test may be neither true nor false of a tree of its shape. `IsPresent` always
+/// is one of them, and a test of a kind where its path is found, so nothing is narrowed for these.
 #[cycle(narrow)]
 fn check<'p>(
     alloc: Global,
@@ -261,7 +261,7 @@ fn check<'p>(
     }
 }
 
-// The number, where the path names something in every tree of its shape.
+/// The number, where the path names something in every tree of its shape.
 fn keep_if_found<'p>(shapes: &Shapes, number: usize, path: &'p RefPath) -> Found<'p>
     requires number { number < length shapes.now }
     ensures as_defined { model.where_found
@@ -278,7 +278,7 @@ fn keep_if_found<'p>(shapes: &Shapes, number: usize, path: &'p RefPath) -> Found
     }
 }
 
-// The number, where both values of a comparison stand there for every tree of its shape.
+/// The number, where both values of a comparison stand there for every tree of its shape.
 fn keep_if_compared<'p>(
     shapes: &Shapes,
     number: usize,
@@ -298,7 +298,7 @@ fn keep_if_compared<'p>(
     }
 }
 
-// The number, where a comparison's second value stands there for every tree of its shape.
+/// The number, where a comparison's second value stands there for every tree of its shape.
 fn keep_if_operand<'p>(shapes: &Shapes, number: usize, operand: &'p Operand) -> Found<'p>
     requires number { number < length shapes.now }
     ensures as_defined { model.where_found

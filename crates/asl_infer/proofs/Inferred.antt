@@ -59,9 +59,6 @@ module _ (table : Table) (declared : model.Declared) (rounds : ℕ) where
   pub rounds-refuse : (why : InferRefusal) → AreNamed table declared → EndsWhereDistinct Strict table declared rounds why → Refuses table declared rounds why
   rounds-refuse why named ends = record { refuses = λ d. strict-ends table declared (named.named d) rounds why (ends.ends d) }
 
-  pub memory-refuses : Refuses table declared rounds refusal.OutOfMemory
-  memory-refuses = record { refuses = λ d. tt }
-
 -- ---- by a machine
 
 -- no name stands twice

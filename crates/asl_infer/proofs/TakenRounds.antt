@@ -1,5 +1,5 @@
 -- Rounds as they are taken, row by row, and round by round.
-use Rattle.std.proofs.Common.{◌≡◌, ◌≢◌, ◌<◌, ◌≤◌, ◌+◌, ◌-◌, ◌*◌, ℕ, zero, suc, List, [], ◌∷◌, length, drop, get_or, slice_get, Bool, true, false, Option, Some, None, option_map, Ok, Err, refl, sym, ap, ◌∙◌, subst, ◌⊎◌, inl, inr, arith}
+use Rattle.std.proofs.Common.{◌≡◌, ◌≢◌, ◌<◌, ◌≤◌, ◌+◌, ◌-◌, ℕ, zero, suc, List, [], ◌∷◌, length, drop, get_or, slice_get, Bool, true, false, Option, Some, None, option_map, Ok, Err, refl, sym, ap, ◌∙◌, subst, ◌⊎◌, inl, inr, arith}
 use Rattle.std.proofs.lemmas.List.{length-map, drop_all}
 use Rattle.std.proofs.lemmas.Option.{slice_get-get_or, slice_get-map}
 use Rattle.asl_model.specs.Certificate as model
@@ -96,9 +96,6 @@ module _ (strictness : Strictness) (table : Table) (declared : model.Declared) w
     pub walked : are_distinct table.names ≡ true → all_walked_by strictness table declared (drop place (rows_of table)) now ≡ round_by strictness table declared before
     pub changed : IsChanged before is_changed now
 
-  pub begin-round : (before : Draft) (changed : Bool) (now : Draft) → Makes room (input_taken table declared) before changed now → IsInRound before 0 changed now
-  begin-round before changed now makes = record { walked = λ distinct. ap (all_walked_by strictness table declared (rows_of table)) makes.made; changed = record { told = makes.told } }
-
   -- rows of states that don't wait are passed over
   pass-rows : (walker : Walker) → AreCalm table declared walker → are_distinct table.names ≡ true → (count from : ℕ) → from + count ≤ length walker.waiting.order.items → NoneWaits walker.waiting.order.items walker.waiting.waits.items from (from + count) → all_walked_by strictness table declared (drop from (rows_of table)) (draft_view walker.draft) ≡ all_walked_by strictness table declared (drop (from + count) (rows_of table)) (draft_view walker.draft)
   pass-rows walker are distinct zero from within none =
@@ -162,9 +159,6 @@ module _ (strictness : Strictness) (table : Table) (declared : model.Declared) w
   end-round numbers before place changed now are past so_far = record {
     taken = λ distinct. sym (so_far.walked distinct) ∙ ap (λ rows. all_walked_by strictness table declared rows now) (no-row table numbers are distinct place past);
   }
-
-  pub memory-told : (before : Draft) → RoundTells strictness table declared before refusal.OutOfMemory
-  memory-told before = record { tells = λ distinct. tt }
 
   -- ---- several rounds
 

@@ -1,5 +1,5 @@
 -- The first name for which a rule about what is declared is broken, as it is looked for.
-use Rattle.std.proofs.Common.{◌≡◌, ◌<◌, ◌≤◌, ◌+◌, ℕ, List, [], ◌∷◌, ◌++◌, codes, length, drop, get_or, Bool, true, false, not, ◌||◌, Option, Some, None, is_some, option_map, slice_get, String, Global, string_bytes, refl, sym, ap, ◌∙◌, subst}
+use Rattle.std.proofs.Common.{◌≡◌, ◌<◌, ◌+◌, ℕ, List, [], ◌∷◌, ◌++◌, codes, length, drop, get_or, Bool, true, false, not, ◌||◌, Option, Some, None, is_some, option_map, slice_get, String, Global, string_bytes, refl, sym, ap, ◌∙◌, subst}
 use Rattle.std.proofs.lemmas.List.{append-nil}
 use Rattle.std.proofs.lemmas.Option.{slice_get-get_or}
 use Rattle.asl_model.specs.Certificate.{Declared, TaskShapes, under}
@@ -21,13 +21,9 @@ use Rattle.asl_check.specs.declared.verdicts.Finding as told
 use Rattle.asl_draft_laws.proofs.SettledClosed.{have_task}
 use Rattle.asl_infer.proofs.FirstNames.{earlier-first, first-append, first-ordered, have-named}
 use Rattle.asl_infer.proofs.OwnRules.{first-none}
-use Rattle.asl_infer.proofs.TakenRounds.{next-row, no-row}
+use Rattle.asl_infer.proofs.TakenRounds.{next-row}
 
 -- ---- one after another
-
-of-none : (o : Option Finding) → first_of o None ≡ o
-of-none None = refl
-of-none (Some found) = refl
 
 of-three : (a b c : Option Finding) → first_of (first_of a b) c ≡ first_of a (first_of b c)
 of-three None b c = refl
@@ -47,22 +43,12 @@ module _ (table : Table) (declared : Declared) where
   pub record UndeclaredLeft (place : ℕ) (first : Option Misnamed) : Type 0 where
     pub left : are_distinct table.names ≡ true → first_of (option_map misnamed_view first) (first_by_name (undeclared declared (drop place (rows_of table)))) ≡ first_by_name (undeclared declared (rows_of table))
 
-  pub all-left : UndeclaredLeft 0 None
-  all-left = record { left = λ distinct. refl }
-
   pub one-less : (numbers : List ℕ) (place number : ℕ) (first this more : Option Misnamed) → AreOrdered table numbers → place < length numbers → number ≡ get_or numbers place number → option_map misnamed_view more ≡ first_of (option_map misnamed_view first) (option_map misnamed_view this) → IsFirstAt table declared number this → UndeclaredLeft place first → UndeclaredLeft (place + 1) more
   one-less numbers place number first this more are within is taken own so_far = record {
     left = λ distinct.
         let at = next-row table numbers are distinct place number (slice_get-get_or numbers place number within ∙ ap Some (sym is)) in
         first-next (option_map misnamed_view first) (option_map misnamed_view this) (option_map misnamed_view more) (found_at at.row.name (breach_unless (not (is_task (kind_of at.row.state)) || is_some (under at.row.name declared.tasks)) (codes "Resource") TaskUndeclared)) (undeclared declared (drop (place + 1) (rows_of table))) (first_by_name (undeclared declared (rows_of table))) taken (own.first at.row at.among at.number)
         (sym (ap (λ rows. first_of (option_map misnamed_view first) (first_by_name (undeclared declared rows))) at.left) ∙ so_far.left distinct);
-  }
-
-  pub none-left : (numbers : List ℕ) (place : ℕ) (first : Option Misnamed) → AreOrdered table numbers → length numbers ≤ place → UndeclaredLeft place first → IsFirst table (undeclared declared (rows_of table)) first
-  none-left numbers place first are past so_far = record {
-    first = λ distinct.
-        sym (of-none (option_map misnamed_view first))
-        ∙ (sym (ap (λ rows. first_of (option_map misnamed_view first) (first_by_name (undeclared declared rows))) (no-row table numbers are distinct place past)) ∙ so_far.left distinct);
   }
 
   -- of one state
@@ -79,11 +65,6 @@ module _ (table : Table) (declared : Declared) where
         (at-row row (Some misnamed) false (ap (λ b. not b || is_some (under row.name declared.tasks)) task ∙ missing) (ap Some told));
   }
 
-  pub right-at : (number : ℕ) (row : Row) → IsIn table row → row.number ≡ number → not (is_task (kind_of row.state)) || is_some (under row.name declared.tasks) ≡ true → IsFirstAt table declared number None
-  right-at number row is same holds = record {
-    first = λ r also here. subst (λ (x : Row). None ≡ first_by_name (undeclared declared (x ∷ []))) (Rattle.asl_infer.proofs.WalkedRows.same-row table row r is also (same ∙ sym here)) (at-row row None true holds refl);
-  }
-
 -- ---- declared tasks that are none
 
 -- a declared task, with its name
@@ -94,17 +75,11 @@ module _ (table : Table) where
   pub record UnknownLeft (tasks further : List (List ℕ × TaskShapes)) (first : Option Misnamed) : Type 0 where
     pub left : are_distinct table.names ≡ true → first_of (option_map misnamed_view first) (first_by_name (unknown (rows_of table) further)) ≡ first_by_name (unknown (rows_of table) tasks)
 
-  pub all-unknown : (tasks : List (List ℕ × TaskShapes)) → UnknownLeft tasks tasks None
-  all-unknown tasks = record { left = λ distinct. refl }
-
   pub one-unknown : (tasks left : List (List ℕ × TaskShapes)) (task : List ℕ × TaskShapes) (name : List ℕ) (first this more : Option Misnamed) → task.0 ≡ name → option_map misnamed_view more ≡ first_of (option_map misnamed_view first) (option_map misnamed_view this) → IsFirstOf table name this → UnknownLeft tasks (task ∷ left) first → UnknownLeft tasks left more
   one-unknown tasks left task name first this more named taken own so_far = record {
     left = λ distinct.
         first-next (option_map misnamed_view first) (option_map misnamed_view this) (option_map misnamed_view more) (found_at task.0 (breach_unless (have_task task.0 (rows_of table)) (codes "tasks") TaskUnknown)) (unknown (rows_of table) left) (first_by_name (unknown (rows_of table) tasks)) taken (own.first distinct task named) (so_far.left distinct);
   }
-
-  pub none-unknown : (tasks : List (List ℕ × TaskShapes)) (first : Option Misnamed) → UnknownLeft tasks [] first → IsFirst table (unknown (rows_of table) tasks) first
-  none-unknown tasks first so_far = record { first = λ distinct. sym (of-none (option_map misnamed_view first)) ∙ so_far.left distinct }
 
   -- of one task
   at-task : (task : List ℕ × TaskShapes) (first : Option Misnamed) (holds : Bool) → have_task task.0 (rows_of table) ≡ holds → option_map misnamed_view first ≡ first_by_name (found_at task.0 (breach_unless holds (codes "tasks") TaskUnknown)) → option_map misnamed_view first ≡ first_by_name (unknown (rows_of table) (task ∷ []))

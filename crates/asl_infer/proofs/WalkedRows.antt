@@ -1,6 +1,5 @@
 -- Walks through the states of a table.
-use Rattle.std.proofs.Common.{◌≡◌, ℕ, List, [], ◌∷◌, length, slice_get, Bool, true, false, Some, None, Ok, Err, refl, sym, ap, ◌∙◌, subst, arith}
-use Rattle.std.proofs.lemmas.Option.{slice_get_within}
+use Rattle.std.proofs.Common.{◌≡◌, ℕ, List, [], ◌∷◌, slice_get, Bool, true, false, Some, None, Ok, Err, refl, sym, ap, ◌∙◌, subst}
 use Rattle.asl_model.specs.Certificate as model
 use Rattle.asl_model.specs.Certificate.{takes_of}
 use Rattle.asl_model.specs.Edges.{Walked}
@@ -9,7 +8,6 @@ use Rattle.asl_model.specs.Inference.{finding_of}
 use Rattle.asl_model.specs.Numbering.{Table}
 use Rattle.asl_model.proofs.RunOptions.{none_some, some_inj}
 use Rattle.asl_draft_laws.specs.Drafts.{Draft, Row, own_breaches, steps_of, steps_taken, unless_found, walked}
-use Rattle.asl_draft_laws.proofs.DraftShapes.{there-within}
 use Rattle.asl_infer.specs.Rounds.{IsIn, IsNoRow, Tells, WalkTells, Walks, walked_by}
 use Rattle.asl_infer.specs.declared.inferring.InferRefusal.{InferRefusal}
 use Rattle.asl_infer.specs.declared.inferring.InferRefusal.TheVariants as refusal
@@ -31,18 +29,6 @@ module _ (table : Table) where
   pub no-name : (number : ℕ) → slice_get table.names number ≡ None → IsNoRow table number
   no-name number none = record { none = λ row is same. none_some (sym none ∙ (ap (slice_get table.names) (sym same) ∙ is.named)) }
 
-  pub no-state : (number : ℕ) → slice_get table.states number ≡ None → IsNoRow table number
-  no-state number none = record { none = λ row is same. none_some (sym none ∙ (ap (slice_get table.states) (sym same) ∙ is.at)) }
-
-  -- nor where something that stands there for each state doesn't
-  pub no-number : {A : Type 0} (xs : List A) (number : ℕ) → length xs ≡ length table.states → slice_get xs number ≡ None → IsNoRow table number
-  no-number xs number many none = record {
-    none = λ row is same.
-        let below = slice_get_within table.states row.number row.state is.at in
-        let there = there-within xs number (omega (arith, below, many, same)) in
-        none_some (sym none ∙ there.1);
-  }
-
 -- ---- walks
 
 module _ (strictness : Strictness) (table : Table) (declared : model.Declared) where
@@ -52,14 +38,6 @@ module _ (strictness : Strictness) (table : Table) (declared : model.Declared) w
 
   pub tells-row : (number : ℕ) (row : Row) (before : Draft) (why : InferRefusal) → IsIn table row → row.number ≡ number → Tells (walked_by strictness table declared row before) why → WalkTells strictness table declared number before why
   tells-row number row before why is same h = record { tells = λ r also here. subst (λ (x : Row). Tells (walked_by strictness table declared x before) why) (same-row table row r is also (same ∙ sym here)) h }
-
-  -- of none
-  pub walks-none : (number : ℕ) (before after : Draft) → IsNoRow table number → Walks strictness table declared number before after
-  walks-none number before after none = record { walks = λ row is same. absurd (none.none row is same) }
-
-  -- memory may run out at any time
-  pub tells-memory : (number : ℕ) (before : Draft) → WalkTells strictness table declared number before refusal.OutOfMemory
-  tells-memory number before = record { tells = λ row is same. tt }
 
 module _ (table : Table) (declared : model.Declared) where
   -- no rule is broken

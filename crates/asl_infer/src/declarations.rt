@@ -1,4 +1,4 @@
-// Tasks that aren't declared, and declared tasks that no state is.
+//! Tasks that aren't declared, and declared tasks that no state is.
 
 ghost use Rattle.std.specs.Prelude.{◌≡◌, option_map, IfErr, OnOk};
 ghost use Rattle.asl_draft_laws.specs.Drafts.{rows_of, undeclared, unknown};
@@ -51,7 +51,7 @@ pub(crate) fn check_tasks(
     }
 }
 
-// The first name of a Task that isn't declared.
+/// The first name of a Task that isn't declared.
 fn first_undeclared<'n>(
     machine: &'n Machine,
     declared: &Declared,
@@ -68,7 +68,7 @@ fn first_undeclared<'n>(
     first
 }
 
-// The name of the state of that number, where it is a Task that isn't declared.
+/// The name of the state of that number, where it is a Task that isn't declared.
 fn undeclared<'n>(machine: &'n Machine, declared: &Declared, number: usize) -> Option<Misnamed<'n>>
     ensures { IsFirstAt (table_view machine.now) (declared_view declared.now) number result }
 {
@@ -85,7 +85,7 @@ fn undeclared<'n>(machine: &'n Machine, declared: &Declared, number: usize) -> O
     }
 }
 
-// The first declared name that no Task has.
+/// The first declared name that no Task has.
 fn first_unknown<'n>(machine: &Machine, declared: &'n Declared) -> Option<Misnamed<'n>>
     ensures { IsFirst (table_view machine.now)
         (unknown (rows_of (table_view machine.now)) (declared_view declared.now).tasks) result }
@@ -97,7 +97,7 @@ fn first_unknown<'n>(machine: &Machine, declared: &'n Declared) -> Option<Misnam
     first
 }
 
-// The name, where no Task has it.
+/// The name, where no Task has it.
 fn unknown<'n>(machine: &Machine, name: &'n str) -> Option<Misnamed<'n>>
     ensures { IsFirstOf (table_view machine.now) name.now result }
 {
@@ -112,7 +112,7 @@ fn unknown<'n>(machine: &Machine, name: &'n str) -> Option<Misnamed<'n>>
     }
 }
 
-// Whether a Task has that name.
+/// Whether a Task has that name.
 fn names_task(machine: &Machine, name: &str) -> bool
     ensures { result ≡ names_task_in (table_view machine.now) name.now }
 {
@@ -125,7 +125,7 @@ fn names_task(machine: &Machine, name: &str) -> bool
     }
 }
 
-// The one whose name comes first in byte order, the first one where both are the same.
+/// The one whose name comes first in byte order, the first one where both are the same.
 fn earlier<'n>(first: Option<Misnamed<'n>>, second: Option<Misnamed<'n>>) -> Option<Misnamed<'n>>
     ensures { option_map misnamed_view result
         ≡ first_of (option_map misnamed_view first.entry) (option_map misnamed_view second.entry) }

@@ -1,4 +1,4 @@
-// Inferring a certificate, round after round.
+//! Inferring a certificate, round after round.
 
 ghost use Rattle.std.specs.Prelude.{◌≡◌, ◌≤◌, ℕ, [], length, IfErr, IfOk};
 ghost use Rattle.serde_json.specs.Data.{depth};
@@ -112,7 +112,7 @@ pub fn infer_numbered(
     settle(alloc, machine, declared, max_rounds)
 }
 
-// Checks the names of the tasks, and takes rounds until the draft settles.
+/// Checks the names of the tasks, and takes rounds until the draft settles.
 fn settle(
     alloc: Global,
     machine: &Machine,
@@ -168,8 +168,8 @@ pub(crate) fn begin<'m>(
     Ok((given, walker))
 }
 
-// A finding that is told of the names of tasks or in a round is of the machine or of what is declared, and stands for
-// some certificate.
+/// A finding that is told of the names of tasks or in a round is of the machine or of what is declared, and stands for
+/// some certificate.
 fn told_findings_stand()
     ensures { (machine : machines.Scope) (declared : certificates.Declared) (rounds : ℕ)
         (found : findings.Finding) → IsWellNamed machine

@@ -1,4 +1,4 @@
-// Inferring a certificate although rules are broken.
+//! Inferring a certificate although rules are broken.
 
 ghost use Rattle.std.specs.Prelude.{◌≡◌, ◌≤◌, ◌*◌, option_map, IfNone, IfOk, IfSome, Some};
 ghost use Rattle.serde_json.specs.Data.{depth};
@@ -59,7 +59,7 @@ pub fn infer_leniently(
     settle_leniently(alloc, machine, declared, max_rounds)
 }
 
-// Takes rounds until the draft settles.
+/// Takes rounds until the draft settles.
 fn settle_leniently(
     alloc: Global,
     machine: &Machine,
@@ -84,7 +84,7 @@ fn settle_leniently(
     }
 }
 
-// Whether the rounds settled that came to that. Refuses where an allocation was refused.
+/// Whether the rounds settled that came to that. Refuses where an allocation was refused.
 fn have_settled(came_to: Result<(), InferRefusal>) -> Result<bool, OutOfMemory>
     ensures { IfOk result (IsSettledOrNot came_to) }
 {

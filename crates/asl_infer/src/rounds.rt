@@ -1,4 +1,4 @@
-// The rounds of an inference: the states are walked, and what flows out of them is taken in.
+//! The rounds of an inference: the states are walked, and what flows out of them is taken in.
 
 ghost use Rattle.std.specs.Prelude.{◌≡◌, length, IfErr, IfNone, IfOk, IfSome, OnOk};
 ghost use Rattle.asl_draft_laws.specs.Drafts.{first_draft, input_taken};
@@ -101,8 +101,8 @@ impl<'m> Given<'m> {
         Err(InferRefusal::NotSettled)
     }
 
-    // One round: what flows into the machine, and then out of each of the states that wait, in byte order of their
-    // names, is taken in. Says whether a shape was changed.
+    /// One round: what flows into the machine, and then out of each of the states that wait, in byte order of their
+    /// names, is taken in. Says whether a shape was changed.
     fn take_round(&self, walker: &mut Walker) -> Result<bool, InferRefusal>
         requires given { IsGiven walker.old.draft.store self.now }
         requires calm { AreCalm (table_in self.now) (declared_in self.now) walker.old }
@@ -130,7 +130,7 @@ impl<'m> Given<'m> {
         Ok(changed)
     }
 
-    // Takes the declared input into the start state's input, and says whether this changed it.
+    /// Takes the declared input into the start state's input, and says whether this changed it.
     fn take_input(&self, walker: &mut Walker) -> Result<bool, OutOfMemory>
         requires given { IsGiven walker.old.draft.store self.now }
         requires calm { AreCalm (table_in self.now) (declared_in self.now) walker.old }
@@ -147,8 +147,8 @@ impl<'m> Given<'m> {
         }
     }
 
-    // Takes in what flows out of the state of that number if it waits, and says whether a shape was changed. A walk
-    // through one that doesn't wait would change nothing. One that breaks a rule of its own waits again.
+    /// Takes in what flows out of the state of that number if it waits, and says whether a shape was changed. A walk
+    /// through one that doesn't wait would change nothing. One that breaks a rule of its own waits again.
     fn take_turn(&self, number: usize, walker: &mut Walker) -> Result<bool, InferRefusal>
         requires given { IsGiven walker.old.draft.store self.now }
         requires calm { AreCalm (table_in self.now) (declared_in self.now) walker.old }
@@ -181,7 +181,7 @@ impl<'m> Given<'m> {
         Ok(changed)
     }
 
-    // The state of that number, with its name and the numbers of its task's shapes.
+    /// The state of that number, with its name and the numbers of its task's shapes.
     fn row(&self, number: usize) -> Option<Row<'m>>
         requires { length self.now.tasks.items ≡ length (table_in self.now).states }
         ensures there { IfSome result (IsRowOf self.now number) }
@@ -197,8 +197,8 @@ impl<'m> Given<'m> {
         })
     }
 
-    // The steps of the walk through the state of that number, and whether they are whole: they break no rule of its own,
-    // whatever is certified elsewhere. Strict rounds refuse where one is broken, with the first of them.
+    /// The steps of the walk through the state of that number, and whether they are whole: they break no rule of its own,
+    /// whatever is certified elsewhere. Strict rounds refuse where one is broken, with the first of them.
     fn steps(
         &self,
         number: usize,

@@ -1,4 +1,4 @@
-// The shapes that are declared of tasks, by number.
+//! The shapes that are declared of tasks, by number.
 
 ghost use Rattle.std.specs.Prelude.{◌≡◌, length, IfOk};
 ghost use Rattle.asl_numbered.specs.Expansion.{Keeps};
@@ -44,7 +44,7 @@ pub(crate) fn task_numbers(
     Ok(tasks)
 }
 
-// The numbers of the shapes of the task of the state of that name.
+/// The numbers of the shapes of the task of the state of that name.
 fn task_of(declared: &Declared, name: &str, store: &mut Store) -> Result<TaskNumbers, OutOfMemory>
     ensures task { IfOk result (IsTaskOf (declared_view declared.now) name.now store.new) }
     ensures keeps { Keeps store.old store.new }

@@ -1,4 +1,4 @@
-// The first rule that a walk breaks whatever is certified elsewhere, and the finding that is told of it.
+//! The first rule that a walk breaks whatever is certified elsewhere, and the finding that is told of it.
 
 ghost use Rattle.std.specs.Prelude.{◌≡◌, ◌<◌, [], ◌∷◌, length, None, option_map, option_to_list, IfOk};
 ghost use Rattle.asl_draft_laws.specs.Drafts.{own_breaches};
@@ -50,7 +50,7 @@ pub(crate) fn first_broken(
     Ok(None)
 }
 
-// The rule that is broken at the step, if one is.
+/// The rule that is broken at the step, if one is.
 fn breach_at(draft: &mut Draft, step: &Step, takes: usize) -> Result<Option<Breach>, OutOfMemory>
     requires below { IsStepBelow (length draft.old.store) step.now }
     requires takes { takes < length draft.old.store }
@@ -68,7 +68,7 @@ fn breach_at(draft: &mut Draft, step: &Step, takes: usize) -> Result<Option<Brea
     }
 }
 
-// The rule that is broken where the edge leads to the task, and what flows along it isn't inside the shape of that number.
+/// The rule that is broken where the edge leads to the task, and what flows along it isn't inside the shape of that number.
 fn payload_breach(
     draft: &mut Draft,
     edge: &Edge,
@@ -92,7 +92,7 @@ fn payload_breach(
     }
 }
 
-// The rule that is broken at the edge, if a tree shows it.
+/// The rule that is broken at the edge, if a tree shows it.
 fn payload_shown(edge: &Edge, example: Option<Tree>) -> Option<Breach>
     ensures { option_to_list (option_map breach_view result)
         ≡ breach_shown edge.now.field.now (finding_fault_view edge.now.fault)
@@ -108,7 +108,7 @@ fn payload_shown(edge: &Edge, example: Option<Tree>) -> Option<Breach>
     }
 }
 
-// The rule that is broken on the way, with the tree that shows its path to be doubtful, if it has one.
+/// The rule that is broken on the way, with the tree that shows its path to be doubtful, if it has one.
 fn shown(draft: &mut Draft, broken: &Broken) -> Result<Breach, OutOfMemory>
     requires { IsBrokenBelow (length draft.old.store) broken.now }
     ensures seen { IfOk result

@@ -2,7 +2,7 @@
 use Rattle.std.proofs.Common.{◌≡◌, ◌≢◌, ◌↔◌, ℕ, List, [], Option, Some, None, true, false, sym, ◌∙◌}
 use Rattle.std.specs.List.{list_any}
 use Rattle.asl_model.specs.Names.{Bytes}
-use Rattle.asl_texts.proofs.Promises.{Certified, Quiet, Unbroken}
+use Rattle.asl_texts.specs.Laws.{Certified, Quiet, Unbroken}
 use Rattle.asl_tool.specs.VerifiedInference.{IsAcceptedAsInferred, NeverFaultsAsInferred}
 use Rattle.asl_texts.specs.Verifying.{MachineReads}
 use Rattle.asl_diagnostics.specs.declared.Diagnostic.{Diagnostic}

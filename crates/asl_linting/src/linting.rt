@@ -1,7 +1,7 @@
 //! From definitions to all that is wrong with them, on standard output.
 
 use crate::definitions::definition_paths;
-use crate::reports::{Report, Told};
+use crate::reports::{Printout, Report};
 use asl_files::{LintRequest, ROUNDS, Unread, finish, is_input, print_text, text_or_why};
 use asl_lint::{File, lint};
 use asl_texts::{Closing, RunFault};
@@ -23,7 +23,7 @@ pub fn lint_files<R: Files + Input + Print + Eprint + AllocGlobal + Clone + Drop
 }
 
 /// Writes what is told, and gives the exit status.
-fn tell<R: Print + Eprint + AllocGlobal>(rt: &R, told: &Told) -> u8 {
+fn tell<R: Print + Eprint + AllocGlobal>(rt: &R, told: &Printout) -> u8 {
     let _ = rt.eprint(&told.notes);
     match print_text(rt, &told.output) {
         Ok(()) => {
@@ -40,7 +40,7 @@ fn tell<R: Print + Eprint + AllocGlobal>(rt: &R, told: &Told) -> u8 {
 fn lint_on<R: Files + Input + AllocGlobal + Clone + Drop>(
     rt: &R,
     request: &LintRequest<'_>,
-) -> Result<Told, OutOfMemory> {
+) -> Result<Printout, OutOfMemory> {
     let mut report = Report::new(rt.alloc());
     let paths = definition_paths(rt, &request.names, &mut report)?;
     match request.declared {

@@ -26,7 +26,7 @@ pub(crate) struct Report {
 
 /// What the program writes of a report, and its exit status.
 #[derive(Drop)]
-pub(crate) struct Told {
+pub(crate) struct Printout {
     /// What goes to standard output.
     pub(crate) output: String,
     /// What goes to standard error in front of it.
@@ -106,13 +106,13 @@ impl Report {
         alloc: Global,
         format: LintFormat,
         deny_warnings: bool,
-    ) -> Result<Told, OutOfMemory> {
+    ) -> Result<Printout, OutOfMemory> {
         let diagnostics = in_order(alloc, self.diagnostics)?;
         let counts = Counts::of(&diagnostics);
         let mut notes = self.notes;
         push_yaml(alloc, &mut notes, &diagnostics)?;
         push_undeclared(alloc, &mut notes, &self.undeclared)?;
-        Ok(Told {
+        Ok(Printout {
             output: written(alloc, &diagnostics, format)?,
             notes,
             counts: counts.line(alloc, self.checked)?,

@@ -358,10 +358,6 @@ module _ (table : List Shape) (p : Pair) (numbers : List ℕ) (h : AreMadeOf tab
   by-kinds : joint table p ≡ join_kinds join a b
   by-kinds = join-inhabited a b h.inhabited.first h.inhabited.second
 
-  -- one of the two is Any
-  pub any_joined : AreKindsOf table p None → AreJoined table None (joint table p)
-  any_joined apart = record { joined = by-kinds ∙ apart.apart.0 }
-
   module _ (first second : NodeKinds) (apart : AreKindsOf table p (Some (first, second))) (n : ℕ) (is : n ≡ length (array_joins (arrays_over table first.arrays) (arrays_over table second.arrays))) where
     -- the joins of the parts of the arrays, and those of the objects
     abbrev front : List Shape

@@ -3,7 +3,6 @@ pub mod Certified
 pub mod DeclaredParts
 pub mod Entries
 pub mod FieldParts
-pub mod Kept
 pub mod Listings
 pub mod Lists
 pub mod Meant

@@ -19,7 +19,7 @@ use Rattle.asl_records.specs.Listing.{IsPlaced, IsListing, Opens, Puts, array_vi
 use Rattle.asl_records.specs.declared.listing.Listing.{Listing}
 use Rattle.asl_records.specs.declared.listing.Task.{Task}
 use Rattle.asl_records.specs.declared.listing.Task.TheVariants.{Visit, List as Put}
-use Rattle.asl_records.proofs.Kept.{Entry}
+use Rattle.asl_records.specs.Laws.{Entry}
 use Rattle.asl_records.proofs.Walks.{step_of, steps_of, done, all_done, AreEachFed, done-append, fed-append, fed-front, fed-behind, work, work-append, some_cost, tasks_done, tasks_fed, tasks_work, nothing_more}
 
 -- the number of a task

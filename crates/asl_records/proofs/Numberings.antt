@@ -18,7 +18,7 @@ use Rattle.asl_records.specs.View.{entry_view, entries_view}
 use Rattle.asl_records.specs.declared.records.NumberedCertificate.{NumberedCertificate}
 use Rattle.asl_records.specs.declared.records.StateShapes.{StateShapes}
 use Rattle.asl_records.specs.declared.records.StateNumbers.{StateNumbers}
-use Rattle.asl_records.proofs.Kept.{Entry, list_kept, states_kept}
+use Rattle.asl_records.specs.Laws.{Entry, list_kept, states_kept}
 
 -- an entry of a map of states with shapes of their own
 abbrev pub Certified : Type 0

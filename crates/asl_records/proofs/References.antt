@@ -29,7 +29,7 @@ use Rattle.asl_records.specs.Writing.{with_list}
 use Rattle.asl_records.specs.WritingNumbered.{ArraysAreBelow, ObjectsAreBelow}
 use Rattle.asl_records.specs.declared.listing.Listing.{Listing}
 use Rattle.asl_records.specs.declared.records.NumberedCertificate.{NumberedCertificate}
-use Rattle.asl_records.proofs.Kept.{Entry}
+use Rattle.asl_records.specs.Laws.{Entry}
 use Rattle.std.specs.Rc.{rc_str_bytes}
 use Rattle.asl_numbered.specs.Names.{Name}
 
@@ -64,9 +64,6 @@ module _ (table : List Shape) (listing : Listing) (placed : IsPlaced table listi
 
   pub refers : (place : ℕ) → read ≡ Some place → reference place ≡ referring (listed_shapes table listing) shape
   refers place some = sym (ap (λ o. unwrap_or (option_map reference o) (written_shape shape)) (has_place ∙ some))
-
-  pub stands_itself : read ≡ None → written_shape shape ≡ referring (listed_shapes table listing) shape
-  stands_itself none = sym (ap (λ o. unwrap_or (option_map reference o) (written_shape shape)) (has_place ∙ none))
 
 -- ---- places and fields
 

@@ -17,7 +17,7 @@ use Rattle.asl_records.specs.declared.records.StateNumbers.{StateNumbers}
 use Rattle.asl_records.specs.declared.refusals.ReadFault.{ReadFault}
 use Rattle.asl_records.proofs.Entries as entries
 use Rattle.asl_records.proofs.Entries.{Reads, Stated, members, seen_again}
-use Rattle.asl_records.proofs.Kept.{Entry, entries_within, entries_shown}
+use Rattle.asl_records.specs.Laws.{Entry, entries_within, entries_shown}
 use Rattle.asl_records.proofs.Meant.{still_meant}
 use Rattle.asl_records.proofs.Numberings.{entries_pushed}
 

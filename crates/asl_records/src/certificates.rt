@@ -1,4 +1,4 @@
-// Reading certificates.
+//! Reading certificates.
 
 ghost use Rattle.std.specs.Prelude.{◌≡◌, [], map, pos, Some, IfOk, IfErr, OnOk, codes};
 ghost use Rattle.std.specs.Ordering.{int_eq};

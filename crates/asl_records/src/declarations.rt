@@ -1,4 +1,4 @@
-// Reading declared shapes.
+//! Reading declared shapes.
 
 ghost use Rattle.std.specs.Prelude.{◌≡◌, [], IfOk, IfErr, OnOk, codes};
 ghost use Rattle.asl_model.specs.Records.{StandsForDeclared, declared_complaints, declared_from, declared_reading, object_complaints, entries_complaints, entries_from, task_rows, task_from};

@@ -1,4 +1,4 @@
-// The shapes in the fields of a certificate, read into a table.
+//! The shapes in the fields of a certificate, read into a table.
 
 ghost use Rattle.std.specs.Prelude.{◌≡◌, List, [], map, true, false, Some, option_map, Contains, IfOk, IfErr, IfSome, OnOk};
 ghost use Rattle.asl_model.specs.Records.{RecordComplaint, ShapesValue, misfits, shape_from, shapes_from};

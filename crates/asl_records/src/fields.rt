@@ -1,4 +1,4 @@
-// The fields of a record, and of its entries.
+//! The fields of a record, and of its entries.
 
 ghost use Rattle.std.specs.Prelude.{◌≡◌, List, [], ◌∷◌, map, true, false, Option, Some, None, option_map, IfOk, IfErr, IfSome, OnOk, codes};
 ghost use Rattle.std.specs.List.{Contains};

@@ -1,4 +1,4 @@
-// Reading the shapes that a certificate lists.
+//! Reading the shapes that a certificate lists.
 
 ghost use Rattle.std.specs.Prelude.{◌≡◌, [], length, option_map, Some, IfOk, IfErr, IfSome, OnOk, codes};
 ghost use Rattle.asl_model.specs.Records.{listed_after};

@@ -1,7 +1,7 @@
-// The list of a certificate's shapes.
-//
-// A walk goes through the shapes, and lists each shape of lists, of objects or of several kinds once its parts are
-// listed. What is still to be done stands in a list of tasks, so that no call goes from a shape to its parts.
+//! The list of a certificate's shapes.
+//!
+//! A walk goes through the shapes, and lists each shape of lists, of objects or of several kinds once its parts are
+//! listed. What is still to be done stands in a list of tasks, so that no call goes from a shape to its parts.
 
 ghost use Rattle.std.specs.Prelude.{◌≡◌, ◌<◌, ◌++◌, [], IfOk, IfSome, OnOk, None, Some, get_or, length, map, option_map};
 ghost use Rattle.asl_model.specs.WrittenNumbered.{is_listed, list_after, list_after_all, list_after_item, list_after_state, shapes_listed};

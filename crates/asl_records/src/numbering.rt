@@ -1,4 +1,4 @@
-// Certificates with shapes of their own, and with numbers of a table.
+//! Certificates with shapes of their own, and with numbers of a table.
 
 ghost use Rattle.std.specs.Prelude.{◌≡◌, ◌<◌, All, IfOk, IfSome, length, map, option_map};
 ghost use Rattle.asl_numbered.specs.Expansion.{shape_at, AreBelow, Keeps};

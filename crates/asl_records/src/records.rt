@@ -1,4 +1,4 @@
-// Declared shapes and certificates.
+//! Declared shapes and certificates.
 
 ghost use Rattle.std.specs.Prelude.{◌≡◌, option_map};
 ghost use Rattle.asl_model.specs.Certificate.{under};

@@ -1,4 +1,4 @@
-// Why declared shapes or a certificate are refused.
+//! Why declared shapes or a certificate are refused.
 
 ghost use Rattle.std.specs.Prelude.{◌≡◌, ◌∷◌, [], Some, IfSome};
 

@@ -1,4 +1,4 @@
-// The version of a certificate's text.
+//! The version of a certificate's text.
 
 ghost use Rattle.std.specs.Prelude.{◌≡◌, pos, IfOk, false, if◌then◌else◌, map, option_map};
 ghost use Rattle.std.specs.List.{list_any};

@@ -1,4 +1,4 @@
-// Writing declared shapes and certificates.
+//! Writing declared shapes and certificates.
 
 ghost use Rattle.std.specs.Prelude.{◌≡◌, pos, IfOk, IfSome, Some, codes, if◌then◌else◌, map, option_map};
 ghost use Rattle.serde_json.specs.Data.{Data};

@@ -1,4 +1,4 @@
-// Writing certificates whose shapes stand in a table.
+//! Writing certificates whose shapes stand in a table.
 
 ghost use Rattle.std.specs.Prelude.{◌≡◌, ◌<◌, ◌^◌, IfOk, IfSome, List, Some, is_some, length, map, not, option_map};
 ghost use Rattle.serde_json.specs.Data.{Data};

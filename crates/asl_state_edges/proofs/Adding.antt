@@ -1,13 +1,12 @@
 -- Steps that are added behind others.
 use Rattle.std.proofs.Common.{◌≡◌, ◌<◌, ◌≤◌, ℕ, List, [], ◌∷◌, ◌++◌, length, Option, Some, None, refl, sym, ap, ◌∙◌, subst, append_assoc, arith}
-use Rattle.std.proofs.lemmas.List.{append-nil, map-append}
+use Rattle.std.proofs.lemmas.List.{append-nil, get_or_append_left, map-append}
 use Rattle.std.specs.Prelude.{IfSome}
 use Rattle.asl_model.specs.Edges.{Walked}
 use Rattle.asl_model.specs.Missing.{counterexample}
-use Rattle.asl_model.specs.Shape.{Shape}
+use Rattle.asl_model.specs.Shape.{Shape, Never}
 use Rattle.asl_flow.specs.declared.doubts.DoubtfulPath.{DoubtfulPath}
 use Rattle.asl_numbered.specs.Expansion.{shape_at, Keeps}
-use Rattle.asl_numbered.proofs.Expansions.{shape_at_stays}
 use Rattle.asl_numbered.specs.Laws.{keeps_longer}
 use Rattle.asl_state_edges.specs.View.{example_of, step_view, steps_of, AreStepsBelow, IsStepBelow}
 use Rattle.asl_state_edges.specs.Walks.{Adds, AddsAnywhere, Pushes, Tells}
@@ -19,10 +18,10 @@ use Rattle.asl_state_edges.specs.declared.found.Step.TheVariants as step
 -- a table that has grown shows them as they were
 example_stays : (table added : List Shape) (path : Option DoubtfulPath) → IfSome path (λ p. p.shape < length table) → example_of (table ++ added) path ≡ example_of table path
 example_stays table added None h = refl
-example_stays table added (Some path) h = ap (λ s. counterexample (record { path = path.path.now; segment = path.segment; shape = s })) (shape_at_stays table added path.shape h)
+example_stays table added (Some path) h = ap (λ s. counterexample (record { path = path.path.now; segment = path.segment; shape = s })) (get_or_append_left table added Never path.shape h)
 
 step_stays : (table added : List Shape) (s : Step) → IsStepBelow (length table) s → step_view (table ++ added) s ≡ step_view table s
-step_stays table added (step.Flows e) h = rw (shape_at_stays table added e.flowing h) refl
+step_stays table added (step.Flows e) h = rw (get_or_append_left table added Never e.flowing h) refl
 step_stays table added (step.Breaks b) h = rw (example_stays table added b.path h) refl
 
 steps_stay : (table added : List Shape) (steps : List Step) → AreStepsBelow (length table) steps → steps_of (table ++ added) steps ≡ steps_of table steps

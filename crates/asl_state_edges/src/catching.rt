@@ -1,4 +1,4 @@
-// The walk over what catchers hand on.
+//! The walk over what catchers hand on.
 
 ghost use Rattle.std.specs.Prelude.{◌≡◌, ◌<◌, OnOk, length};
 ghost use Rattle.asl_state_edges.specs.Steps.{catcher_steps, catchers_steps};

@@ -1,4 +1,4 @@
-// The walk over the rules of a Choice, and over `Default`.
+//! The walk over the rules of a Choice, and over `Default`.
 
 ghost use Rattle.std.specs.Prelude.{◌<◌, ◌++◌, OnOk, length};
 ghost use Rattle.asl_state_edges.specs.Steps.{default_steps, rule_steps, rules_steps};

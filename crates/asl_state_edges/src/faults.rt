@@ -1,4 +1,4 @@
-// What is wrong with a certificate.
+//! What is wrong with a certificate.
 
 ghost use Rattle.std.specs.Prelude.{◌≡◌, ◌<◌, ℕ, List};
 ghost use Rattle.asl_model.specs.Finding.{breach_of, missing_breach, plain_breach};

@@ -1,4 +1,4 @@
-// The steps of the walk through a state.
+//! The steps of the walk through a state.
 
 ghost use Rattle.std.specs.Prelude.{◌≡◌, ◌<◌, IfOk, length};
 ghost use Rattle.asl_state_edges.specs.Entry.{entry_view, IsEntryBelow};

@@ -1,4 +1,4 @@
-// The walk over a Map's items, over what its children take, and over what they give.
+//! The walk over a Map's items, over what its children take, and over what they give.
 
 ghost use Rattle.std.specs.Prelude.{◌<◌, OnOk, length};
 ghost use Rattle.asl_state_edges.specs.Entry.{IsEntryBelow};

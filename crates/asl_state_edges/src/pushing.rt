@@ -1,4 +1,4 @@
-// Steps of one shape, broken rules and doubts, which are added to the steps so far.
+//! Steps of one shape, broken rules and doubts, which are added to the steps so far.
 
 ghost use Rattle.std.specs.Prelude.{OnOk, option_map};
 ghost use Rattle.asl_state_edges.specs.View.{finding_fault_view};

@@ -1,4 +1,4 @@
-// The walk through a state, in the order of its steps.
+//! The walk through a state, in the order of its steps.
 
 ghost use Rattle.std.specs.Prelude.{◌≡◌, ◌<◌, OnOk, length};
 ghost use Rattle.asl_state_edges.specs.Entry.{IsEntryBelow};

@@ -1,4 +1,4 @@
-// The walk over what comes of an effective input, and over what needs none, by the state's type.
+//! The walk over what comes of an effective input, and over what needs none, by the state's type.
 
 ghost use Rattle.std.specs.Prelude.{◌<◌, ◌++◌, OnOk, length};
 ghost use Rattle.asl_state_edges.specs.Entry.{IsEntryBelow};

@@ -19,7 +19,7 @@ use Rattle.asl_records.specs.Parts.{complaint_of, field_complaints, is_number, l
 use Rattle.asl_records.specs.Values.{IsPart, IsValue}
 use Rattle.asl_records.specs.declared.records.NumberedCertificate.{NumberedCertificate}
 use Rattle.asl_records.proofs.Certified.{is_its_reading, none_wrong}
-use Rattle.asl_records.proofs.Kept.{states_kept}
+use Rattle.asl_records.specs.Laws.{states_kept}
 use Rattle.asl_records.proofs.Meant.{IsLent, kept_items, lent_meant}
 use Rattle.asl_records.specs.declared.records.StateNumbers.{StateNumbers}
 use Rattle.asl_streams.specs.Fielded.{AreFields, AreStates, AreStatesRead, IsList, ReadsField, ReadsFields}

@@ -17,7 +17,7 @@ use Rattle.asl_records.specs.Listed.{AreInTable, ForReading}
 use Rattle.asl_records.specs.Numbering.{AreStateOf, AreStatesOf}
 use Rattle.asl_records.specs.Values.{AreMembers, For, Gives, IsValue}
 use Rattle.asl_records.specs.declared.records.StateNumbers.{StateNumbers}
-use Rattle.asl_records.proofs.Kept.{states_kept}
+use Rattle.asl_records.specs.Laws.{states_kept}
 use Rattle.asl_records.proofs.Meant.{still_meant}
 use Rattle.asl_streams.specs.Streamed.{ReadsStates, SpellMembers}
 use Rattle.asl_streams.proofs.Put.{right_put, states_put}

@@ -20,7 +20,7 @@ use Rattle.asl_records.specs.Numbered.{numbered_entries}
 use Rattle.asl_records.specs.WritingNumbered.{table_of, listed_by, spelled_over}
 use Rattle.asl_records.specs.declared.records.StateNumbers.{StateNumbers}
 use Rattle.asl_records.specs.declared.writing_numbered.ShapeWriter.{ShapeWriter}
-use Rattle.asl_records.proofs.Kept.{Entry}
+use Rattle.asl_records.specs.Laws.{Entry}
 use Rattle.asl_tree.specs.Written.{tree_tokens, ReadsBack}
 use Rattle.asl_tree.proofs.Texts.{after_first}
 use Rattle.asl_tree.proofs.Tokens.{integer_back}

@@ -5,6 +5,7 @@ pub mod CertificateTokens
 pub mod Chunk
 pub mod FirstTold
 pub mod Fronts
+pub mod Laws
 pub mod Lines
 pub mod OfLines
 pub mod Promised

@@ -29,7 +29,7 @@ use std::alloc::Global;
 
 /// A run that was told.
 #[derive(Drop)]
-struct Told {
+struct Traced {
     end: RunEnd,
     trace: Vec<u8>,
 }
@@ -81,7 +81,12 @@ pub fn run_texts<R: Source, W: Sink>(
 }
 
 /// The run of what the texts read as; none where the input isn't of its shape.
-fn run_given(alloc: Global, given: Given, order: Pick, max_steps: u64) -> Result<Told, OutOfMemory>
+fn run_given(
+    alloc: Global,
+    given: Given,
+    order: Pick,
+    max_steps: u64,
+) -> Result<Traced, OutOfMemory>
     ensures { IfOk result (λ told. RunsTo (given_view given) order max_steps
         (run_end_view told.end) told.trace.items) }
 {
@@ -92,7 +97,7 @@ fn run_given(alloc: Global, given: Given, order: Pick, max_steps: u64) -> Result
         answers,
     } = given;
     if !fits_input(declared.as_ref(), &input) {
-        return Ok(Told {
+        return Ok(Traced {
             end: RunEnd::InputShape,
             trace: Vec::new(alloc),
         });
@@ -123,7 +128,7 @@ fn run_with(
     answers: &mut DeclaredAnswers<'_>,
     mut order: Pick,
     max_steps: u64,
-) -> Result<Told, OutOfMemory>
+) -> Result<Traced, OutOfMemory>
     ensures { let shapes = option_map (λ d. declared_view d.now) answers.old.declared in
         let given = given_of (scope_in machine.now) shapes (view input)
         (map answer_view answers.old.list.items) in
@@ -133,7 +138,7 @@ fn run_with(
     machine.is_shown();
     let (stop, trace) = trace(alloc, machine, input, &mut order, answers, max_steps)?;
     let end = end_of(alloc, machine, stop, answers.is_spent())?;
-    Ok(Told { end, trace })
+    Ok(Traced { end, trace })
 }
 
 /// Drives a run of a machine on an input until it stops. What happens is written after each step, whose entries aren't

@@ -1,4 +1,4 @@
-// What stands for the shapes of a table, of which the last is kept.
+//! What stands for the shapes of a table, of which the last is kept.
 
 ghost use Rattle.std.specs.Prelude.{◌≡◌, ◌<◌, ◌++◌, length, IfOk, OnOk};
 ghost use Rattle.asl_records.specs.WritingNumbered.{IsReady};

@@ -1,4 +1,4 @@
-// Notices by what a certificate says of the data that comes to a state.
+//! Notices by what a certificate says of the data that comes to a state.
 
 ghost use Rattle.std.specs.Prelude.{OnOk};
 ghost use Rattle.asl_warnings.specs.Notices.{KeepsUnled};

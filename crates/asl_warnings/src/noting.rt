@@ -1,4 +1,4 @@
-// Notices by what is found at a state.
+//! Notices by what is found at a state.
 
 ghost use Rattle.std.specs.Prelude.{◌≡◌, ◌++◌, OnOk, false};
 ghost use Rattle.asl_warnings.specs.Adding.{is_marked};

@@ -6,7 +6,7 @@ use Rattle.asl_numbered.specs.Expansion.{Keeps}
 use Rattle.asl_model.specs.Shape.{Shape}
 use Rattle.asl_records.specs.Numbered.{AreEntriesBelow}
 use Rattle.asl_records.specs.View.{declared_view}
-use Rattle.asl_records.proofs.Kept.{entries_shown}
+use Rattle.asl_records.specs.Laws.{entries_shown}
 use Rattle.asl_machine_table.specs.Table.{table_view}
 use Rattle.asl_ways.specs.Coming.{Coming, leaves_certified, leaves_first}
 use Rattle.asl_ways.specs.Given.{Given, given_in}

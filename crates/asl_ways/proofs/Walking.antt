@@ -11,7 +11,7 @@ use Rattle.asl_numbered.specs.Expansion.{shape_at, AreBelow, IsNumberOf, Keeps}
 use Rattle.asl_numbered.specs.Laws.{kept_shape, kept_within}
 use Rattle.asl_records.specs.Numbered.{numbers_view, AreNumbersBelow}
 use Rattle.asl_records.specs.declared.records.StateNumbers.{StateNumbers}
-use Rattle.asl_records.proofs.Kept.{numbers_shown, numbers_within}
+use Rattle.asl_records.specs.Laws.{numbers_shown, numbers_within}
 use Rattle.asl_state_edges.specs.Entry.{entry_view, IsEntryBelow}
 use Rattle.asl_state_edges.specs.declared.found.Entry.{Entry}
 

@@ -3,7 +3,7 @@ use Rattle.asl_model.specs.Certificate.{Certificate}
 use Rattle.asl_model.specs.Verdict.{IsRight}
 use Rattle.asl_numbered.specs.Laws.{keeps_trans}
 use Rattle.asl_machine_table.specs.Table.{scope_in, table_view}
-use Rattle.asl_records.proofs.Kept.{certificate_shown, certificate_within}
+use Rattle.asl_records.specs.Laws.{certificate_shown, certificate_within}
 use Rattle.asl_records.specs.View.{declared_view}
 use Rattle.asl_check.specs.Told.{listed, TellsFirst}
 use Rattle.asl_check.specs.View.{verdict_view}

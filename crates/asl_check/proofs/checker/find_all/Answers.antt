@@ -2,7 +2,7 @@ use Rattle.std.proofs.Common.{◌≡◌, IfOk, refl, subst}
 use Rattle.asl_model.specs.Certificate.{Certificate}
 use Rattle.asl_numbered.specs.Laws.{keeps_trans}
 use Rattle.asl_machine_table.specs.Table.{table_view}
-use Rattle.asl_records.proofs.Kept.{certificate_shown, certificate_within}
+use Rattle.asl_records.specs.Laws.{certificate_shown, certificate_within}
 use Rattle.asl_records.specs.View.{declared_view}
 use Rattle.asl_check.specs.Told.{listed}
 use Rattle.asl_check.specs.View.{findings_of}

@@ -4,13 +4,12 @@ use Rattle.std.specs.List.Sorted.{IsStrictlySortedBy}
 use Rattle.std.specs.Map.{keys_of}
 use Rattle.asl_model.specs.ShapeFlow.{doubts, element_doubts, field_doubts}
 use Rattle.asl_numbered.specs.Laws.{keeps_trans}
-use Rattle.asl_template.proofs.Values.{Entry}
 use Rattle.asl_template.specs.View.{view, elements_view, entries_view}
 use Rattle.asl_numbered.specs.Expansion.{Shows}
 use Rattle.asl_flow.specs.Sources.{input_of, item_of, IsWithin}
 use Rattle.asl_flow.specs.TemplateAnswer.{ArePutDown}
 use Rattle.asl_flow.proofs.Composed.{number_more, field_more}
-use Rattle.asl_flow.proofs.Filled.{of_value, element_put, elements_put, elements_end, field_put, fields_put, fields_end, list_doubts, object_doubts}
+use Rattle.asl_flow.proofs.Filled.{Entry, of_value, element_put, elements_put, elements_end, field_put, fields_put, fields_end, list_doubts, object_doubts}
 use Rattle.asl_flow.proofs.PutDoubts.{put_kept, on_ok}
 use Rattle.asl_flow.proofs.SourcesKept.{sources_kept, as_before}
 use Rattle.asl_flow.proofs.templates.+template.Goals as goal

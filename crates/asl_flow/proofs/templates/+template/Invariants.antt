@@ -1,12 +1,11 @@
 use Rattle.std.proofs.Common.{◌≡◌, List, ◌++◌, length, take}
 use Rattle.asl_model.specs.ShapeFlow.{element_doubts, field_doubts}
 use Rattle.asl_numbered.specs.Expansion.{AreNumbersOf, AreFieldsOf, Keeps}
-use Rattle.asl_template.proofs.Values.{Entry}
 use Rattle.asl_template.specs.View.{elements_view, entries_view}
 use Rattle.asl_flow.specs.Sources.{input_of, item_of, IsWithin}
 use Rattle.asl_flow.specs.TemplateAnswer.{ArePutDown}
 use Rattle.asl_flow.proofs.Composed.{shapes_by}
-use Rattle.asl_flow.proofs.Filled.{of_value}
+use Rattle.asl_flow.proofs.Filled.{Entry, of_value}
 use Rattle.asl_flow.proofs.Needed.{needed_by}
 use Rattle.asl_flow.proofs.templates.+template.Given as goal
 

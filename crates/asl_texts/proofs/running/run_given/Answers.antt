@@ -4,7 +4,7 @@ use Rattle.asl_records.specs.View.{declared_view}
 use Rattle.asl_records.specs.declared.records.Declared.{Declared}
 use Rattle.asl_texts.specs.Runs.{fits_input, given_of, given_view}
 use Rattle.asl_texts.specs.View.{run_end_view}
-use Rattle.asl_texts.specs.declared.running.Told.{Told}
+use Rattle.asl_texts.specs.declared.running.Traced.{Traced}
 use Rattle.asl_texts.proofs.RunEnds.{Ran, not_run, run_so, shapes_seen}
 use Rattle.asl_texts.proofs.running.run_given.Goals as goal
 
@@ -19,8 +19,8 @@ returns c =
     let seen = λ (d : Bor Declared). declared_view d.now in
     let given = given_view c.args.given in
     let for_shapes = λ (s : Option model.Declared). given_of given.machine s given.input given.answers in
-    let end = λ (told : Told). run_end_view told.end in
-    let text = λ (told : Told). told.trace.items in
+    let end = λ (told : Traced). run_end_view told.end in
+    let text = λ (told : Traced). told.trace.items in
     let same = shapes_seen c.as_ref.result c.args.given.declared c.as_ref.ensures.value in
     let again = shapes_seen c.as_ref-2.result c.args.given.declared c.as_ref-2.ensures.value in
     let fits : fits_input given.shapes given.input ≡ true = sym (c.if-not-fits_input.ensures ∙ ap (λ s. fits_input s given.input) same) in

@@ -1,5 +1,5 @@
 use Rattle.std.proofs.Common.{refl}
-use Rattle.asl_records.proofs.Kept.{certificate_shown, certificate_within}
+use Rattle.asl_records.specs.Laws.{certificate_shown, certificate_within}
 use Rattle.asl_ways.proofs.arriving.arrivals.Goals as goal
 
 pub arrivals-requires : goal.arrivals-requires

@@ -1,5 +1,5 @@
 use Rattle.std.proofs.Common.{refl}
-use Rattle.asl_records.proofs.Kept.{certificate_shown, certificate_within}
+use Rattle.asl_records.specs.Laws.{certificate_shown, certificate_within}
 use Rattle.asl_ways.proofs.visiting.visits.Goals as goal
 
 pub visits-requires : goal.visits-requires

@@ -15,7 +15,7 @@ use Rattle.asl_check.specs.Standing.{standing_view}
 use Rattle.asl_check.specs.declared.standing.Standing.{Standing}
 use Rattle.asl_check.proofs.FlowsTold.{listed_along, entered, entered_below, standing_seen, standing_within}
 use Rattle.asl_check.proofs.StepsApart.{steps_apart}
-use Rattle.asl_records.proofs.Kept.{numbers_shown}
+use Rattle.asl_records.specs.Laws.{numbers_shown}
 use Rattle.asl_check.proofs.checker.Checker.list_walk.Goals as goal
 
 pub edges_of-requires-clause-entry : goal.edges_of-requires-clause-entry

@@ -1,7 +1,7 @@
 use Rattle.std.proofs.Common.{◌≡◌, ◌++◌, [], length, refl, sym, ap, subst, arith}
 use Rattle.std.proofs.lemmas.List.{append-nil}
 use Rattle.asl_numbered.specs.Laws.{keeps_trans}
-use Rattle.asl_records.proofs.Kept.{entries_within}
+use Rattle.asl_records.specs.Laws.{entries_within}
 use Rattle.asl_ways.specs.Adding.{Adds}
 use Rattle.asl_ways.specs.Coming.{leaves_certified, leaves_first, starts}
 use Rattle.asl_ways.specs.Given.{given_in}

@@ -1,7 +1,7 @@
-use Rattle.std.proofs.Common.{◌<◌, Some, length, sym, ◌∙◌, subst, arith}
+use Rattle.std.proofs.Common.{Some, length, sym, ◌∙◌, subst, arith}
 use Rattle.asl_numbered.specs.Expansion.{shape_at}
 use Rattle.asl_numbered.specs.Laws.{keeps_trans}
-use Rattle.asl_records.proofs.Kept.{entries_within}
+use Rattle.asl_records.specs.Laws.{entries_within}
 use Rattle.asl_ways.specs.Coming.{leaves}
 use Rattle.asl_ways.specs.Given.{given_in}
 use Rattle.asl_ways.specs.Seeking.{Visits}

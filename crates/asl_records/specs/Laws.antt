@@ -1,4 +1,4 @@
--- Numbers of a table that has grown stand for the same shapes.
+-- Laws of certificates by number: what holds of their numbers still holds in a table that has grown.
 use Rattle.std.proofs.Common.{◌≡◌, ◌<◌, ℕ, List, [], ◌∷◌, length, String, Global, refl, ◌∙◌, subst, sym}
 use Rattle.std.specs.List.{AllByRecursion}
 use Rattle.asl_numbered.specs.Expansion.{Keeps}
