@@ -2,10 +2,10 @@
 
 use crate::causes::Cause;
 use crate::flows::Explainer;
-use crate::words::push_line;
 use asl_flow::{TemplateShapeRefusal, template_shape_at};
 use asl_intrinsic::{Arg, Call};
 use asl_numbered::Shapes;
+use asl_phrases::push_line;
 use asl_states::{Kind, State};
 use asl_template::Template;
 use asl_tree::{OutOfMemory, quoted};

@@ -1,8 +1,8 @@
 //! The line that says what is wrong.
 
-use crate::words::cut;
 use asl_check::{FindingFault, Located};
 use asl_diagnostics::rule_of_finding;
+use asl_phrases::cut;
 use asl_tree::{OutOfMemory, quoted};
 use std::alloc::Global;
 

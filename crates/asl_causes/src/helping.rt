@@ -1,13 +1,12 @@
 //! What usually helps.
 
 use crate::causes::{Cause, Way};
-use crate::differences::{Lack, difference};
 use crate::flows::Explainer;
-use crate::stops::{Stop, stop_of};
 use crate::there::ITEM;
 use asl_check::{FindingFault, Located};
 use asl_diagnostics::rule_of_finding;
 use asl_numbered::Shapes;
+use asl_phrases::{Lack, Stop, difference, stop_of};
 use asl_state_edges::{Broken, Step};
 use asl_states::Kind;
 use asl_tree::{OutOfMemory, quoted};
@@ -156,7 +155,7 @@ impl Explainer<'_> {
             return self.general(fault);
         };
         let whole = self.whole_at(shapes, cause, field, path.shape)?;
-        match stop_of(self.alloc, shapes, &path)? {
+        match stop_of(self.alloc, shapes, path.shape, path.path, path.segment)? {
             Some(stop) if !stop.is_field => self.help_with_element(whole, &stop),
             Some(stop) => self.help_with_field(field, whole, &stop, cause, on_some_way),
             None => self.general(fault),

@@ -1,17 +1,15 @@
 //! Tests of choice rules that narrow nothing of the data with which a rule of the certificate is broken.
 
 use crate::causes::{Cause, Way};
-use crate::differences::Lack;
 use crate::flows::Explainer;
 use crate::origins::numbered;
 use crate::results::is_whole;
-use crate::stops::{front_of, stop_of};
 use crate::there::path_in;
-use crate::words::push_line;
 use asl_check::FindingFault;
 use asl_choice::{Test, ValueKind};
 use asl_numbered::Shapes;
 use asl_path::{RefPath, print};
+use asl_phrases::{Lack, front_of, push_line, stop_of};
 use asl_state_edges::{Broken, Step};
 use asl_states::{Kind, State};
 use asl_tree::OutOfMemory;
@@ -81,7 +79,7 @@ impl<'m> Explainer<'m> {
     ) -> Result<Option<Unsure>, OutOfMemory> {
         match (broken.fault, &broken.path) {
             (FindingFault::PathMayBeMissing, Some(path)) => {
-                match stop_of(self.alloc, shapes, path)? {
+                match stop_of(self.alloc, shapes, path.shape, path.path, path.segment)? {
                     Some(stop) if stop.is_field && !stop.is_anything => Ok(Some(Unsure::Field {
                         absent: stop.absent,
                         front: stop.front,

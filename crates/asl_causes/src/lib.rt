@@ -9,7 +9,6 @@
 mod by_state;
 mod calls;
 mod causes;
-mod differences;
 mod flows;
 mod heads;
 mod helping;
@@ -20,10 +19,8 @@ mod misfits;
 mod origins;
 mod results;
 mod state_text;
-mod stops;
 mod telling;
 mod there;
 mod walking;
-mod words;
 
 pub use known::{Known, finding_text_alone};

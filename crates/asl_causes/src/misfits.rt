@@ -2,11 +2,10 @@
 
 use crate::causes::Cause;
 use crate::flows::Explainer;
-use crate::stops::{front_of, part_at};
-use crate::words::{counted, noted};
 use asl_flow::{PutRefusal, put_at};
 use asl_numbered::Shapes;
 use asl_path::{RefPath, Segment};
+use asl_phrases::{counted, front_of, noted, part_at};
 use asl_shape::Shape;
 use asl_states::Settings;
 use asl_tree::{OutOfMemory, quoted};

@@ -2,7 +2,7 @@
 
 use crate::causes::Way;
 use crate::flows::Explainer;
-use crate::words::counted;
+use asl_phrases::counted;
 use asl_tree::{OutOfMemory, quoted};
 use asl_ways::{Arrival, Exit, Origin, Visit, way_to};
 use std::alloc::Global;

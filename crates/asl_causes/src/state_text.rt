@@ -2,9 +2,9 @@
 
 use crate::flows::Explainer;
 use crate::heads::{is_repeated, told_in_short};
-use crate::words::{counted, noted, push_all};
 use asl_check::Located;
 use asl_numbered::Shapes;
+use asl_phrases::{counted, noted, push_all};
 use asl_records::StateNumbers;
 use asl_states::{Kind, State};
 use asl_tree::OutOfMemory;

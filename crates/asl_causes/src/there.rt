@@ -1,15 +1,13 @@
 //! What is known of the data with which a rule is broken.
 
 use crate::causes::Cause;
-use crate::differences::difference;
 use crate::flows::Explainer;
-use crate::stops::{Stop, stop_of};
-use crate::words::{noted, push_line};
 use asl_check::{FindingFault, Located};
 use asl_choice::holds;
 use asl_flow::{DoubtfulPath, effective_at, find_at, missing_at};
 use asl_numbered::Shapes;
 use asl_path::{RefPath, print};
+use asl_phrases::{Stop, difference, noted, push_line, stop_of};
 use asl_state_edges::{Broken, Edge, Step};
 use asl_states::{ChoiceRule, Delay, Kind, State};
 use asl_tree::{OutOfMemory, Tree};
@@ -72,7 +70,7 @@ impl Explainer<'_> {
         path: &DoubtfulPath,
     ) -> Result<(), OutOfMemory> {
         let whole = self.whole_at(shapes, cause, field, path.shape)?;
-        match stop_of(self.alloc, shapes, path)? {
+        match stop_of(self.alloc, shapes, path.shape, path.path, path.segment)? {
             Some(stop) if path.segment == 0 => self.push_stopping(shapes, text, whole, &stop),
             Some(stop) => {
                 self.push_stopping(shapes, text, &stop.front, &stop)?;

@@ -1,7 +1,6 @@
 //! Where a path may stop, and why.
 
 use crate::words::cut;
-use asl_flow::DoubtfulPath;
 use asl_numbered::{NodeKinds, NodeObjects, Shapes};
 use asl_path::{RefPath, Segment, print};
 use asl_tree::{OutOfMemory, quoted};
@@ -9,53 +8,53 @@ use std::alloc::Global;
 
 /// A value beyond which a path may name nothing.
 #[derive(Drop)]
-pub(crate) struct Stop {
+pub struct Stop {
     /// The number of its shape.
-    pub(crate) shape: usize,
+    pub shape: usize,
     /// The text of the path up to it, which is `$` for the whole.
-    pub(crate) front: String,
+    pub front: String,
     /// The text of the path up to what may be absent.
-    pub(crate) absent: String,
+    pub absent: String,
     /// Why it may be absent, in words that go on behind the shape.
-    pub(crate) why: String,
+    pub why: String,
     /// Whether what may be absent is a field.
-    pub(crate) is_field: bool,
+    pub is_field: bool,
     /// Whether the value may be anything.
-    pub(crate) is_anything: bool,
+    pub is_anything: bool,
     /// Whether a test by `IsPresent` makes sure that the path names something.
-    pub(crate) is_narrowed: bool,
+    pub is_narrowed: bool,
 }
 
-/// Where a path may stop that may name nothing; none where it has no such segment.
-pub(crate) fn stop_of(
+/// Where a path may stop that is looked up in a value of the shape of that number: behind its first `many` segments, since the
+/// next one may name nothing. None where there is no next one, or where the shape doesn't mention what the first ones name.
+/// Refuses only where an allocation was refused.
+pub fn stop_of(
     alloc: Global,
     shapes: &Shapes,
-    path: &DoubtfulPath,
+    number: usize,
+    path: &RefPath,
+    many: usize,
 ) -> Result<Option<Stop>, OutOfMemory> {
     let (Some(segment), Some(shape)) = (
-        path.path.segments().get(path.segment),
-        part_at(shapes, path.shape, path.path, path.segment),
+        path.segments().get(many),
+        part_at(shapes, number, path, many),
     ) else {
         return Ok(None);
     };
     Ok(Some(Stop {
         shape,
-        front: front_of(alloc, path.path, path.segment)?,
-        absent: front_of(alloc, path.path, path.segment.saturating_add(1))?,
+        front: front_of(alloc, path, many)?,
+        absent: front_of(alloc, path, many.saturating_add(1))?,
         why: why_absent(alloc, shapes, shape, segment)?,
         is_field: matches!(segment, Segment::Name(_)),
         is_anything: shapes.take_apart(shape).is_none(),
-        is_narrowed: is_narrowed(shapes, path.shape, path.path),
+        is_narrowed: is_narrowed(shapes, number, path),
     }))
 }
 
-/// The number of the shape of what the first segments of a path name in a value of that shape, where that is mentioned.
-pub(crate) fn part_at(
-    shapes: &Shapes,
-    number: usize,
-    path: &RefPath,
-    many: usize,
-) -> Option<usize> {
+/// The number of the shape of what the first `many` segments of a path name in a value of the shape of that number, where that
+/// is mentioned. Takes no memory.
+pub fn part_at(shapes: &Shapes, number: usize, path: &RefPath, many: usize) -> Option<usize> {
     let mut part = number;
     for segment in path.segments().iter().take(many) {
         part = part_of(shapes, part, segment)?;
@@ -99,8 +98,8 @@ fn goes_into(shapes: &Shapes, number: usize, segment: &Segment) -> bool {
     }
 }
 
-/// The text of the first segments of a path.
-pub(crate) fn front_of(alloc: Global, path: &RefPath, many: usize) -> Result<String, OutOfMemory> {
+/// The text of the first `many` segments of a path, cut where it is long. Refuses only where an allocation was refused.
+pub fn front_of(alloc: Global, path: &RefPath, many: usize) -> Result<String, OutOfMemory> {
     let text = print(alloc, path)?;
     let mut end = 1;
     for segment in path.segments().iter().take(many) {

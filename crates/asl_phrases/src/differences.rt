@@ -21,7 +21,7 @@ struct Part {
 
 /// How a value of one shape may lack another.
 #[derive(Clone, Copy, Drop)]
-pub(crate) enum Lack {
+pub enum Lack {
     /// A field may be absent.
     Absent,
     /// A field may be there that isn't taken.
@@ -34,18 +34,20 @@ pub(crate) enum Lack {
 
 /// Where a value of one shape may lack another.
 #[derive(Drop)]
-pub(crate) struct Apart {
+pub struct Apart {
     /// The place as a path, and what may be so there.
-    pub(crate) text: String,
-    pub(crate) lack: Lack,
+    pub text: String,
+    /// How the value may lack the other shape there.
+    pub lack: Lack,
 }
 
-/// What is told of a value that may lack a shape on its first level.
-type Told = (String, Lack);
+/// What a value may lack of a shape on its first level: in words, and how.
+type Lacking = (String, Lack);
 
-/// In words where a value of the first shape may lack the second, and what is wanted there. `who` is what wants the second
-/// shape.
-pub(crate) fn difference(
+/// In words where a value of the shape of the first number may lack the second shape, and what is wanted there: the first such
+/// place, as far as 64 levels down. `who` is what wants the second shape. The table has the same shapes as before; it remembers
+/// which of them are inside others. Refuses only where an allocation was refused.
+pub fn difference(
     alloc: Global,
     shapes: &mut Shapes,
     inner: usize,
@@ -66,7 +68,7 @@ fn lack_below(
     place: &mut String,
     pair: (usize, usize),
     who: &str,
-) -> Result<Told, OutOfMemory> {
+) -> Result<Lacking, OutOfMemory> {
     let (mut inner, mut outer) = pair;
     for _ in 0..MOST_LEVELS {
         if let Some(told) = lack_between(alloc, shapes, inner, outer, who)? {
@@ -88,7 +90,7 @@ fn unnamed_lack(
     shapes: &Shapes,
     outer: usize,
     who: &str,
-) -> Result<Told, OutOfMemory> {
+) -> Result<Lacking, OutOfMemory> {
     let wanted = noted(alloc, shapes, outer)?;
     let told = format!(in alloc; " may not be what {who} wants, {wanted}")?;
     Ok((told, Lack::Other))
@@ -101,7 +103,7 @@ fn lack_between(
     inner: usize,
     outer: usize,
     who: &str,
-) -> Result<Option<Told>, OutOfMemory> {
+) -> Result<Option<Lacking>, OutOfMemory> {
     let Some(wanted) = shapes.take_apart(outer) else {
         return Ok(None);
     };
@@ -174,7 +176,7 @@ fn lack_of_parts(
     kinds: &NodeKinds,
     wanted: &NodeKinds,
     who: &str,
-) -> Result<Option<Told>, OutOfMemory> {
+) -> Result<Option<Lacking>, OutOfMemory> {
     if let (Some(objects), Some(others)) = (&kinds.objects, &wanted.objects) {
         if let Some(lack) = lack_of_object(alloc, shapes, objects, others, who)? {
             return Ok(Some(lack));
@@ -193,7 +195,7 @@ fn lack_of_object(
     objects: &NodeObjects,
     wanted: &NodeObjects,
     who: &str,
-) -> Result<Option<Told>, OutOfMemory> {
+) -> Result<Option<Lacking>, OutOfMemory> {
     match absent_field(alloc, objects, wanted, who)? {
         Some(lack) => Ok(Some(lack)),
         None if wanted.extra => Ok(None),
@@ -208,7 +210,7 @@ fn surplus_of_object(
     objects: &NodeObjects,
     wanted: &NodeObjects,
     who: &str,
-) -> Result<Option<Told>, OutOfMemory> {
+) -> Result<Option<Lacking>, OutOfMemory> {
     match unwanted_field(alloc, shapes, objects, wanted, who)? {
         Some(lack) => Ok(Some(lack)),
         None if objects.extra => {
@@ -225,7 +227,7 @@ fn absent_field(
     objects: &NodeObjects,
     wanted: &NodeObjects,
     who: &str,
-) -> Result<Option<Told>, OutOfMemory> {
+) -> Result<Option<Lacking>, OutOfMemory> {
     for (name, field) in wanted.fields.iter() {
         if field.needed && !is_sure(objects, name) {
             let name = quoted(alloc, name)?;
@@ -251,7 +253,7 @@ fn unwanted_field(
     objects: &NodeObjects,
     wanted: &NodeObjects,
     who: &str,
-) -> Result<Option<Told>, OutOfMemory> {
+) -> Result<Option<Lacking>, OutOfMemory> {
     for (name, field) in objects.fields.iter() {
         if wanted.fields.get(name.as_str()).is_none()
             && shapes.inhabited(field.shape) == Some(true)
@@ -273,7 +275,7 @@ fn lack_of_list(
     lists: &NodeArrays,
     wanted: &NodeArrays,
     who: &str,
-) -> Result<Option<Told>, OutOfMemory> {
+) -> Result<Option<Lacking>, OutOfMemory> {
     let many = wanted.first.len();
     if lists.first.len() < many {
         let told = format!(in alloc; " may have fewer than {many} elements, and {who} needs them")?;
