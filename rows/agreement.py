@@ -14,7 +14,8 @@ given to `asl verify`:
 - the objects in JSON have the fields that docs/REFERENCE.md names, those that it says are always there in each;
 - text, JSON, SARIF and GitHub's commands tell the same diagnostics, in one order;
 - the problem matcher takes each line of the text apart as the JSON has it;
-- what is told stands in the state and the field that it names, and a path at a text that says it (rows/placing.py).
+- what is told stands in the state and the field that it names, and a path at a text that says it (rows/placing.py);
+- of broken definitions and broken declared shapes it tells the faults that stand in them, each at its place (rows/broken.py).
 
 Each is given to `asl graph`, without and with its declared shapes, for Mermaid and for dot: where it draws a picture, that
 shows the definition's states, scopes and lines, and the states that lint tells an error of or to which no data comes
@@ -27,7 +28,7 @@ Each is given to `asl explain`, too:
 - where verify says yes, the input and the output that `asl explain --state` tells of the first states are those of the
   certificate that `asl infer` prints, in short notation (rows/notation.py).
 
-The last line is 'N passed, M failed', in which N counts the definitions, four times, and the checks of formats; the exit status
+The last line is 'N passed, M failed', in which N counts the definitions, four times, the broken texts and the checks of formats; the exit status
 is 0 where nothing failed and something passed.
 """
 
@@ -41,6 +42,7 @@ import subprocess
 import sys
 import tempfile
 
+from broken import broken_texts, fault_of_broken
 from machines import Maker
 from made import made
 from notation import noted
@@ -53,6 +55,8 @@ MOST_BYTES = 100000
 MATCHER = TOP / "tools/asl-problem-matcher.json"
 REFERENCE = TOP / "docs/REFERENCE.md"
 SECONDS = 300
+# How many broken definitions, and declared shapes, are made.
+BROKEN = 300
 # How many states of a definition are looked at, in byte order of their names.
 MOST_STATES = 6
 
@@ -209,6 +213,22 @@ def look_at_places(folder, diagnostics, tally):
         tally.look(f"places in {folder.names[number]}", next((it for it in faults if it), None))
 
 
+def look_at_broken(program, tally):
+    """Looks whether of texts that are broken at several places all faults are told, each at its place."""
+    with tempfile.TemporaryDirectory(prefix="asl-broken-") as name:
+        path = pathlib.Path(name)
+        texts = list(broken_texts(BROKEN))
+        for file, text, _ in texts:
+            (path / file).write_text(text, encoding="utf-8")
+        words = [program, "lint", ".", "--format", "json"]
+        ran = subprocess.run(words, cwd=path, capture_output=True, timeout=SECONDS, check=False)
+    told = {file: [] for file, _, _ in texts}
+    for it in json.loads(ran.stdout):
+        told[it["file"].removeprefix("./")].append(it)
+    for file, text, faults in texts:
+        tally.look(f"faults in {file}", fault_of_broken(text, faults, told[file]))
+
+
 def fault_of_picture(program, folder, number, told, *words):
     """Where the picture of a definition shows something else than the definition has, or None."""
     status, output, _ = folder.run(program, "graph", folder.words(number)[0], *words)
@@ -324,6 +344,7 @@ def look_at(program, folder, tally):
     look_at_verdicts(program.resolve(), folder, diagnostics, tally)
     look_at_formats(program.resolve(), folder, diagnostics, tally)
     look_at_places(folder, diagnostics, tally)
+    look_at_broken(program.resolve(), tally)
     look_at_pictures(program.resolve(), folder, diagnostics, tally)
     look_at_explanations(program.resolve(), folder, diagnostics, tally)
 

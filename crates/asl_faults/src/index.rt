@@ -17,11 +17,11 @@ pub struct Index<'s, 'a> {
     lists: BTreeMap<usize, LargeList<'a>>,
 }
 
-/// The elements of a large list, and of each name of a member the value in the first object among them that has it.
+/// The elements of a large list, and of each name of a member the values in the objects among them that have it, in turn.
 #[derive(Drop)]
 struct LargeList<'a> {
     elements: Vec<Spot>,
-    values: BTreeMap<&'a str, Spot>,
+    values: BTreeMap<&'a str, Vec<Spot>>,
 }
 
 impl<'s, 'a> Index<'s, 'a> {
@@ -111,38 +111,46 @@ impl<'s, 'a> Index<'s, 'a> {
         }
     }
 
-    /// The value of that name in the first object of a list that has it, or in the value itself, where it is no list.
-    pub fn first_with(&self, whole: Spot, name: &str) -> Option<Spot> {
-        if let Some(list) = self.lists.get(&whole.token) {
-            return list.values.get(name).copied();
-        }
-        let Some(mut elements) = self.outline.items(whole) else {
-            return Some(self.member(whole, name)?.value);
-        };
-        while let Some(element) = elements.next() {
-            if let Some(found) = self.member(element, name) {
-                return Some(found.value);
-            }
-        }
-        None
+    /// The elements of the list at the spot. Any other value has none. Refuses only where an allocation was refused.
+    pub fn elements(&self, alloc: Global, list: Spot) -> Result<Vec<Spot>, OutOfMemory> {
+        let mut elements = Vec::new(alloc);
+        push_elements(self.outline, list, &mut elements)?;
+        Ok(elements)
     }
 
-    /// The first object of a list that has no member of that name, or the value itself, where it is such an object.
-    pub fn first_without(&self, whole: Spot, name: &str) -> Option<Spot> {
-        let Some(mut elements) = self.outline.items(whole) else {
-            return self.lacks(whole, name).then_some(whole);
-        };
-        while let Some(element) = elements.next() {
-            if self.lacks(element, name) {
-                return Some(element);
-            }
-        }
-        None
+    /// Whether the value at the spot is an object.
+    pub fn is_object(&self, value: Spot) -> bool {
+        self.outline.members(value).is_some()
     }
 
-    /// Whether the value is an object without a member of that name.
-    fn lacks(&self, value: Spot, name: &str) -> bool {
-        self.outline.members(value).is_some() && self.member(value, name).is_none()
+    /// Whether it is a list.
+    pub fn is_list(&self, value: Spot) -> bool {
+        self.outline.items(value).is_some()
+    }
+
+    /// The values of that name in the objects of a list, each in turn. Refuses only where an allocation was refused.
+    pub fn all_with(
+        &self,
+        alloc: Global,
+        list: Spot,
+        name: &str,
+    ) -> Result<Vec<Spot>, OutOfMemory> {
+        let mut values = Vec::new(alloc);
+        match self.lists.get(&list.token) {
+            Some(list) => {
+                if let Some(found) = list.values.get(name) {
+                    values.extend_from_slice(found)?;
+                }
+            }
+            None => {
+                for element in &self.elements(alloc, list)? {
+                    if let Some(found) = self.member(*element, name) {
+                        values.push(found.value)?;
+                    }
+                }
+            }
+        }
+        Ok(values)
     }
 
     /// The value of a state's field, or the state's name where the state has no such field.
@@ -164,25 +172,49 @@ impl<'a> LargeList<'a> {
         let mut elements = Vec::new(alloc);
         push_elements(outline, list, &mut elements)?;
         let mut values = BTreeMap::new(alloc);
-        for element in elements.iter().rev() {
-            insert_members(outline, *element, &mut values)?;
+        for element in &elements {
+            add_members(alloc, outline, *element, &mut values)?;
         }
         Ok(LargeList { elements, values })
     }
 }
 
-/// Puts the values of the object's members under their names, in place of those that are there.
-fn insert_members<'a>(
+/// Puts the values of the object's members under their names, behind those that are there.
+fn add_members<'a>(
+    alloc: Global,
     outline: &Outline<'a>,
     object: Spot,
-    values: &mut BTreeMap<&'a str, Spot>,
+    values: &mut BTreeMap<&'a str, Vec<Spot>>,
 ) -> Result<(), OutOfMemory> {
     let Some(mut members) = outline.members(object) else {
         return Ok(());
     };
     while let Some((name, member)) = members.next() {
-        drop(values.insert(name, member.value)?);
+        add_value(alloc, object, name, member.value, values)?;
     }
+    Ok(())
+}
+
+/// Puts a value of the object under its name, in place of one of the same object.
+fn add_value<'a>(
+    alloc: Global,
+    object: Spot,
+    name: &'a str,
+    value: Spot,
+    values: &mut BTreeMap<&'a str, Vec<Spot>>,
+) -> Result<(), OutOfMemory> {
+    if let Some(there) = values.get_mut(name) {
+        if let Some(last) = there.last() {
+            if last.token > object.token {
+                drop(there.pop());
+            }
+        }
+        there.push(value)?;
+        return Ok(());
+    }
+    let mut first = Vec::new(alloc);
+    first.push(value)?;
+    drop(values.insert(name, first)?);
     Ok(())
 }
 

@@ -1,15 +1,16 @@
 //! What is wrong with a shape that is refused, and where.
 use crate::found::Found;
 use crate::index::Index;
-use crate::placed::{Placed, object_of, tree_at};
+use crate::placed::{Placed, tree_at};
 use asl_places::Spot;
-use asl_shape::{ShapeRefusal, read};
-use asl_tree::{OutOfMemory, Tree, copy};
+use asl_shape::ShapeRefusal;
+use asl_shape::levels::{
+    annotations, check_min_items, is_among, known_keywords, member, read_additional,
+    read_properties, read_required, says, type_names,
+};
+use asl_tree::{OutOfMemory, Tree};
 use std::alloc::Global;
 use std::collections::BTreeMap;
-
-/// The types of shapes.
-const TYPES: [&str; 6] = ["array", "boolean", "integer", "null", "object", "string"];
 
 /// What is said of a text that ought to be a type.
 const NO_TYPE: &str = "is no type of shapes";
@@ -20,235 +21,252 @@ const TYPES_SAID: &str = "A type is a text, or a list of one or more texts, each
 /// What is said of a name that ought to be a keyword.
 const NO_KEYWORD: &str = "is no keyword of shapes";
 
-/// What is wrong with the shape at a spot of a text, which is refused: with itself, or else with one in it, at the least depth.
-/// Refuses only where an allocation was refused.
-pub fn fault_of_shape(
+/// All that is wrong with the shape at a spot of a text, and with the shapes in it, at the least depth first. It is as much as
+/// `asl_complaints::shape_faults` tells of it: of a value that is no shape, and of a `type` that says none, one fault; without
+/// a `type` one for each keyword but the annotations; else one for each keyword that the types don't have, and for each that
+/// says what it can't say. What stands in a keyword that isn't read is not looked into. Refuses only where an allocation was
+/// refused.
+pub fn faults_of_shape(
     alloc: Global,
     index: &Index<'_, '_>,
     text: &[u8],
     spot: Spot,
-) -> Result<Found, OutOfMemory> {
+) -> Result<Vec<Found>, OutOfMemory> {
     let Some(tree) = tree_at(alloc, index, text, spot)? else {
-        return Ok(Found::at(spot));
+        return Ok(Vec::new(alloc));
     };
     let mut shapes = Vec::new(alloc);
     shapes.push(Placed { spot, tree: &tree })?;
+    let mut looking = Looking {
+        alloc,
+        index,
+        shapes,
+        found: Vec::new(alloc),
+    };
     // Each shape has a byte of the text at least.
     for at in 0..text.len() {
-        let Some(shape) = shapes.get(at).copied() else {
+        let Some(shape) = looking.shapes.get(at).copied() else {
             break;
         };
-        if let Some(refusal) = refusal_of(alloc, &outline_of(alloc, shape.tree)?)? {
-            return fault_at(alloc, index, shape, &refusal);
-        }
-        push_shapes_in(index, shape, &mut shapes)?;
+        looking.look_at(shape)?;
     }
-    Ok(Found::at(spot))
+    Ok(looking.found)
 }
 
-/// Why a tree is no shape, where it is none.
-fn refusal_of(alloc: Global, tree: &Tree) -> Result<Option<ShapeRefusal>, OutOfMemory> {
-    match read(alloc, tree) {
-        Ok(_) => Ok(None),
-        Err(ShapeRefusal::OutOfMemory) => Err(OutOfMemory),
-        Err(refusal) => Ok(Some(refusal)),
-    }
-}
-
-/// The shape with `true` in place of each shape in it.
-fn outline_of(alloc: Global, shape: &Tree) -> Result<Tree, OutOfMemory> {
-    let Tree::Object(fields) = shape else {
-        return copy(alloc, shape);
-    };
-    let mut outline = BTreeMap::new(alloc);
-    for (name, value) in fields.iter() {
-        let key = name.clone()?;
-        drop(outline.insert(key, outline_of_keyword(alloc, name, value)?)?);
-    }
-    Ok(Tree::Object(outline))
-}
-
-/// The value of a keyword with `true` in place of each shape in it.
-fn outline_of_keyword(alloc: Global, name: &str, value: &Tree) -> Result<Tree, OutOfMemory> {
-    match name {
-        "items" => Ok(Tree::Bool(true)),
-        "prefixItems" => outline_of_list(alloc, value),
-        "properties" => outline_of_fields(alloc, value),
-        _ => copy(alloc, value),
-    }
-}
-
-/// The list with `true` in place of each element.
-fn outline_of_list(alloc: Global, value: &Tree) -> Result<Tree, OutOfMemory> {
-    let Tree::List(shapes) = value else {
-        return copy(alloc, value);
-    };
-    let mut outline = Vec::new(alloc);
-    for _shape in shapes {
-        outline.push(Tree::Bool(true))?;
-    }
-    Ok(Tree::List(outline))
-}
-
-/// The object with `true` in place of the value of each field.
-fn outline_of_fields(alloc: Global, value: &Tree) -> Result<Tree, OutOfMemory> {
-    let Tree::Object(shapes) = value else {
-        return copy(alloc, value);
-    };
-    let mut outline = BTreeMap::new(alloc);
-    for (name, _) in shapes.iter() {
-        drop(outline.insert(name.clone()?, Tree::Bool(true))?);
-    }
-    Ok(Tree::Object(outline))
-}
-
-/// Puts the shapes in a shape behind the others.
-fn push_shapes_in<'t>(
-    index: &Index<'_, '_>,
-    shape: Placed<'t>,
-    shapes: &mut Vec<Placed<'t>>,
-) -> Result<(), OutOfMemory> {
-    if let Some(first) = shape.member(index, "prefixItems") {
-        first.push_elements(index, shapes)?;
-    }
-    if let Some(rest) = shape.member(index, "items") {
-        shapes.push(rest)?;
-    }
-    if let Some(fields) = shape.member(index, "properties") {
-        fields.push_members(index, shapes)?;
-    }
-    Ok(())
-}
-
-/// What is wrong with a shape by itself, which is refused so.
-fn fault_at(
+/// A shape that is looked through.
+#[derive(Drop)]
+struct Looking<'l, 's, 'a, 't> {
     alloc: Global,
-    index: &Index<'_, '_>,
-    shape: Placed<'_>,
-    refusal: &ShapeRefusal,
-) -> Result<Found, OutOfMemory> {
-    let Some(fields) = shape.fields() else {
-        let sentence = "A shape is an object, `true` or `false`";
-        return Ok(Found::said(shape.spot, String::from_str(alloc, sentence)?));
-    };
-    if let ShapeRefusal::BadType = refusal {
-        return fault_of_type(alloc, index, shape);
-    }
-    for (name, _) in fields.iter() {
-        if is_refused_alone(alloc, fields, name, refusal)? {
-            return fault_of_keyword(alloc, index, shape, name, refusal);
-        }
-    }
-    Ok(Found::at(shape.spot))
+    index: &'l Index<'s, 'a>,
+    /// The shapes in it that are looked at, and those that are still to come.
+    shapes: Vec<Placed<'t>>,
+    /// What is wrong with those that are looked at.
+    found: Vec<Found>,
 }
 
-/// Whether a shape with that keyword alone, beside its type, is refused so.
-fn is_refused_alone(
-    alloc: Global,
-    fields: &BTreeMap<String, Tree>,
-    name: &str,
-    refusal: &ShapeRefusal,
-) -> Result<bool, OutOfMemory> {
-    let mut alone = Vec::new(alloc);
-    for keyword in ["type", name] {
-        if let Some(value) = fields.get(keyword) {
-            alone.push((keyword, outline_of_keyword(alloc, keyword, value)?))?;
-        }
-    }
-    let found = refusal_of(alloc, &object_of(alloc, alone)?)?;
-    Ok(found.as_ref() == Some(refusal))
-}
-
-/// What is wrong with a keyword of a shape, at its name or its value.
-fn fault_of_keyword(
-    alloc: Global,
-    index: &Index<'_, '_>,
-    shape: Placed<'_>,
-    name: &str,
-    refusal: &ShapeRefusal,
-) -> Result<Found, OutOfMemory> {
-    let Some(member) = index.member(shape.spot, name) else {
-        return Ok(Found::at(shape.spot));
-    };
-    if let ShapeRefusal::Keyword = refusal {
-        let isnt = match is_keyword(alloc, name)? {
-            true => "is no keyword of a shape of this type",
-            false => NO_KEYWORD,
-        };
-        return Ok(Found::of_text(member.name, isnt));
-    }
-    let sentence = match name {
-        "properties" => "The value of `properties` isn't an object with the shapes of fields",
-        "required" => "The value of `required` isn't a list of names, each of them once",
-        "additionalProperties" =>
-            "The value of `additionalProperties` is neither `true` nor `false`",
-        "prefixItems" =>
-            "Beside `prefixItems`, a list of shapes, their number has to stand as `minItems`",
-        "minItems" => "The value of `minItems` isn't the number of the shapes in `prefixItems`",
-        "type" => TYPES_SAID,
-        _ => return Ok(Found::at(member.value)),
-    };
-    Ok(Found::said(member.value, String::from_str(alloc, sentence)?))
-}
-
-/// What is wrong with a shape without a type: a keyword that there isn't, or that the type is absent.
-fn fault_without_type(
-    alloc: Global,
-    index: &Index<'_, '_>,
-    shape: Placed<'_>,
-) -> Result<Found, OutOfMemory> {
-    let Some(fields) = shape.fields() else {
-        return Ok(Found::at(shape.spot));
-    };
-    for (name, _) in fields.iter() {
-        if !is_keyword(alloc, name)? {
-            if let Some(member) = index.member(shape.spot, name) {
-                return Ok(Found::of_text(member.name, NO_KEYWORD));
+impl<'t> Looking<'_, '_, '_, 't> {
+    /// Adds what is wrong with a shape by itself, and the shapes in it to those that are still to come.
+    fn look_at(&mut self, shape: Placed<'t>) -> Result<(), OutOfMemory> {
+        match shape.tree {
+            Tree::Bool(_) => Ok(()),
+            Tree::Object(keywords) => self.add_of_keywords(shape, keywords),
+            Tree::Null | Tree::Int(_) | Tree::Text(_) | Tree::List(_) => {
+                self.add(shape.spot, "A shape is an object, `true` or `false`")
             }
         }
     }
-    let sentence = "The field `type` is required beside other keywords, and it is absent";
-    Ok(Found::said(shape.spot, String::from_str(alloc, sentence)?))
-}
 
-/// Whether shapes of some type may have the keyword.
-fn is_keyword(alloc: Global, name: &str) -> Result<bool, OutOfMemory> {
-    let mut types = Vec::new(alloc);
-    for it in TYPES {
-        types.push(Tree::Text(String::from_str(alloc, it)?))?;
+    /// Adds a fault of which that is said.
+    fn add(&mut self, spot: Spot, sentence: &str) -> Result<(), OutOfMemory> {
+        self.found.push(Found::told(self.alloc, spot, sentence)?)?;
+        Ok(())
     }
-    let mut fields = Vec::new(alloc);
-    fields.push((name, Tree::Bool(true)))?;
-    fields.push(("type", Tree::List(types)))?;
-    let refusal = refusal_of(alloc, &object_of(alloc, fields)?)?;
-    Ok(refusal != Some(ShapeRefusal::Keyword))
-}
 
-/// What is wrong with the type of a shape.
-fn fault_of_type(
-    alloc: Global,
-    index: &Index<'_, '_>,
-    shape: Placed<'_>,
-) -> Result<Found, OutOfMemory> {
-    let Some(types) = shape.member(index, "type") else {
-        return fault_without_type(alloc, index, shape);
-    };
-    if let Tree::Text(_) = types.tree {
-        return Ok(Found::of_text(types.spot, NO_TYPE));
+    /// Adds a fault of the text that stands there.
+    fn add_of_text(&mut self, spot: Spot, isnt: &'static str) -> Result<(), OutOfMemory> {
+        self.found.push(Found::of_text(spot, isnt))?;
+        Ok(())
     }
-    let mut names = Vec::new(alloc);
-    types.push_elements(index, &mut names)?;
-    for name in names {
-        if !is_type(alloc, name.tree)? {
-            return Ok(Found::of_text(name.spot, NO_TYPE));
+
+    /// Adds a fault of a keyword's value.
+    fn add_of_value(
+        &mut self,
+        shape: Placed<'t>,
+        keyword: &str,
+        sentence: &str,
+    ) -> Result<(), OutOfMemory> {
+        let spot = match self.index.member(shape.spot, keyword) {
+            Some(found) => found.value,
+            None => shape.spot,
+        };
+        self.add(spot, sentence)
+    }
+
+    /// Adds a fault of a keyword's name.
+    fn add_of_name(
+        &mut self,
+        shape: Placed<'t>,
+        keyword: &str,
+        isnt: &'static str,
+    ) -> Result<(), OutOfMemory> {
+        let spot = match self.index.member(shape.spot, keyword) {
+            Some(found) => found.name,
+            None => shape.spot,
+        };
+        self.add_of_text(spot, isnt)
+    }
+
+    /// Adds what is wrong with the keywords of a shape.
+    fn add_of_keywords(
+        &mut self,
+        shape: Placed<'t>,
+        keywords: &'t BTreeMap<String, Tree>,
+    ) -> Result<(), OutOfMemory> {
+        let Some(types) = member(keywords, "type") else {
+            return self.add_foreign(shape, keywords, annotations(), "needs a `type` beside it");
+        };
+        match type_names(types, true) {
+            Ok(names) => self.add_of_types(shape, keywords, names),
+            Err(_) => self.add_of_type(shape),
         }
     }
-    Ok(Found::said(types.spot, String::from_str(alloc, TYPES_SAID)?))
-}
 
-/// Whether the value is the name of a type.
-fn is_type(alloc: Global, name: &Tree) -> Result<bool, OutOfMemory> {
-    let mut fields = Vec::new(alloc);
-    fields.push(("type", copy(alloc, name)?))?;
-    Ok(refusal_of(alloc, &object_of(alloc, fields)?)?.is_none())
+    /// Adds the keywords that aren't among the known ones; of those that shapes of some type have, that is said.
+    fn add_foreign(
+        &mut self,
+        shape: Placed<'t>,
+        keywords: &'t BTreeMap<String, Tree>,
+        known: &[&str],
+        isnt: &'static str,
+    ) -> Result<(), OutOfMemory> {
+        for (keyword, _) in keywords.iter() {
+            if !is_among(keyword, known) {
+                let is_of_some_type = is_among(keyword, known_keywords(true, true));
+                let said = if is_of_some_type { isnt } else { NO_KEYWORD };
+                self.add_of_name(shape, keyword, said)?;
+            }
+        }
+        Ok(())
+    }
+
+    /// Adds what is wrong with a `type` that says no types: the first text in it that is none, or the value.
+    fn add_of_type(&mut self, shape: Placed<'t>) -> Result<(), OutOfMemory> {
+        let Some(types) = shape.member(self.index, "type") else {
+            return self.add(shape.spot, TYPES_SAID);
+        };
+        if let Tree::Text(_) = types.tree {
+            return self.add_of_text(types.spot, NO_TYPE);
+        }
+        let mut names = Vec::new(self.alloc);
+        types.push_elements(self.index, &mut names)?;
+        for name in names {
+            if type_names(name.tree, false).is_err() {
+                return self.add_of_text(name.spot, NO_TYPE);
+            }
+        }
+        self.add(types.spot, TYPES_SAID)
+    }
+
+    /// Adds what is wrong with the keywords beside a `type` that says those types.
+    fn add_of_types(
+        &mut self,
+        shape: Placed<'t>,
+        keywords: &'t BTreeMap<String, Tree>,
+        types: &[Tree],
+    ) -> Result<(), OutOfMemory> {
+        let (array, object) = (says(types, "array"), says(types, "object"));
+        let isnt = "is no keyword of a shape of this type";
+        self.add_foreign(shape, keywords, known_keywords(array, object), isnt)?;
+        if array {
+            self.add_of_lists(shape, keywords)?;
+        }
+        if object {
+            self.add_of_objects(shape, keywords)?;
+        }
+        Ok(())
+    }
+
+    /// Adds what is wrong with what a shape says of lists, and the shapes of their elements to those that are still to come.
+    fn add_of_lists(
+        &mut self,
+        shape: Placed<'t>,
+        keywords: &'t BTreeMap<String, Tree>,
+    ) -> Result<(), OutOfMemory> {
+        let mut count = 0;
+        if let Some(first) = shape.member(self.index, "prefixItems") {
+            match first.tree {
+                Tree::List(shapes) => count = shapes.len(),
+                _ => self.add(
+                    first.spot,
+                    "The value of `prefixItems` isn't a list of shapes",
+                )?,
+            }
+            first.push_elements(self.index, &mut self.shapes)?;
+        }
+        if let Some(rest) = shape.member(self.index, "items") {
+            self.shapes.push(rest)?;
+        }
+        self.add_of_count(shape, keywords, count)
+    }
+
+    /// Adds what is wrong with a `minItems` beside so many shapes in `prefixItems`, or with its absence.
+    fn add_of_count(
+        &mut self,
+        shape: Placed<'t>,
+        keywords: &'t BTreeMap<String, Tree>,
+        count: usize,
+    ) -> Result<(), OutOfMemory> {
+        let (keyword, sentence) = match check_min_items(keywords, count) {
+            Ok(()) => return Ok(()),
+            Err(ShapeRefusal::NotAShape) => {
+                ("minItems", "The value of `minItems` is no whole number")
+            }
+            Err(_) if member(keywords, "minItems").is_some() => (
+                "minItems",
+                "The value of `minItems` isn't the number of the shapes in `prefixItems`",
+            ),
+            Err(_) => (
+                "prefixItems",
+                "Beside `prefixItems`, a list of shapes, their number has to stand as `minItems`",
+            ),
+        };
+        self.add_of_value(shape, keyword, sentence)
+    }
+
+    /// Adds what is wrong with what a shape says of objects, and the shapes of their fields to those that are still to come.
+    fn add_of_objects(
+        &mut self,
+        shape: Placed<'t>,
+        keywords: &'t BTreeMap<String, Tree>,
+    ) -> Result<(), OutOfMemory> {
+        if let Some(fields) = shape.member(self.index, "properties") {
+            fields.push_members(self.index, &mut self.shapes)?;
+        }
+        if read_properties(keywords).is_err() {
+            let sentence = "The value of `properties` isn't an object with the shapes of fields";
+            self.add_of_value(shape, "properties", sentence)?;
+        }
+        self.add_of_required(shape, keywords)?;
+        if read_additional(keywords).is_err() {
+            let sentence = "The value of `additionalProperties` is neither `true` nor `false`";
+            self.add_of_value(shape, "additionalProperties", sentence)?;
+        }
+        Ok(())
+    }
+
+    /// Adds what is wrong with the names of the fields that are required.
+    fn add_of_required(
+        &mut self,
+        shape: Placed<'t>,
+        keywords: &'t BTreeMap<String, Tree>,
+    ) -> Result<(), OutOfMemory> {
+        match read_required(self.alloc, keywords) {
+            Ok(_) => Ok(()),
+            Err(ShapeRefusal::OutOfMemory) => Err(OutOfMemory),
+            Err(_) => {
+                let sentence = "The value of `required` isn't a list of names, each of them once";
+                self.add_of_value(shape, "required", sentence)
+            }
+        }
+    }
 }

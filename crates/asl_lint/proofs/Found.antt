@@ -1,5 +1,5 @@
 -- What is found in texts, by what they read as.
-use Rattle.std.proofs.Common.{◌≡◌, ℕ, List, [], ◌∷◌, ◌++◌, sym, subst}
+use Rattle.std.proofs.Common.{◌≡◌, ℕ, List, ◌++◌, sym, subst}
 use Rattle.asl_model.specs.Names.{Bytes}
 use Rattle.asl_model.specs.Texts.{ReadsAsDeclared}
 use Rattle.asl_machine_table.specs.Held.{Held}
@@ -14,11 +14,11 @@ module _ (rounds : ℕ) (definition declared : Bytes) where
   pub read_both : (machine : Held) (shapes : Declared) (told : List Told) → ReadsInto definition machine → ReadsAsDeclared declared (declared_view shapes) → TellsOfMachine rounds (scope_in machine) (declared_view shapes) told → TellsOfBoth rounds definition declared told
   read_both machine shapes told r d t = both_read r d t
 
-  pub read_one : (machine : Held) (last : Told) (told : List Told) → ReadsInto definition machine → TellsOfDeclared declared last → told ≡ last ∷ [] → TellsOfBoth rounds definition declared told
-  read_one machine last told r t is = subst (TellsOfBoth rounds definition declared) (sym is) (definition_reads r t)
+  pub read_one : (machine : Held) (told : List Told) → ReadsInto definition machine → TellsOfDeclared declared told → TellsOfBoth rounds definition declared told
+  read_one machine told r t = definition_reads r t
 
   pub read_other : (shapes : Declared) (told : List Told) → TellsOfDefinition definition told → ReadsAsDeclared declared (declared_view shapes) → TellsOfBoth rounds definition declared told
   read_other shapes told t d = declared_reads t d
 
-  pub read_none : (last : Told) (front told : List Told) → TellsOfDefinition definition front → TellsOfDeclared declared last → told ≡ front ++ last ∷ [] → TellsOfBoth rounds definition declared told
-  read_none last front told t u is = subst (TellsOfBoth rounds definition declared) (sym is) (neither_reads t u)
+  pub read_none : (front others told : List Told) → TellsOfDefinition definition front → TellsOfDeclared declared others → told ≡ front ++ others → TellsOfBoth rounds definition declared told
+  read_none front others told t u is = subst (TellsOfBoth rounds definition declared) (sym is) (neither_reads t u)

@@ -8,6 +8,7 @@ use Rattle.asl_model.specs.Json.{ReadsAsValue}
 use Rattle.asl_model.specs.Machine.{Scope}
 use Rattle.asl_model.specs.Names.{Bytes}
 use Rattle.asl_model.specs.Numbering.{table_of}
+use Rattle.asl_model.specs.Records.{RecordComplaint, declared_complaints}
 use Rattle.asl_model.specs.StandsFor.{Complaint, complaints}
 use Rattle.asl_model.specs.Texts.{TextFault, NotJson, NotWhole, BadDefinition, BadRecord, IsDeclaredFault, IsDefinitionFault, ReadsAsDeclared, ReadsAsMachine, definition_no_json, definition_complaint, declared_no_json, declared_not_whole, declared_complaint}
 use Rattle.asl_model.proofs.ReadingLaws.{declared_text_has_no_fault, definition_has_no_fault, text_has_one_declared, text_has_one_machine}
@@ -18,7 +19,7 @@ use Rattle.asl_lint.specs.Linted as faulty
 use Rattle.asl_lint.specs.Linted.{IsFaulty}
 use Rattle.asl_lint.specs.Tells as tells
 use Rattle.asl_lint.specs.Tells.{AreBroken, TellsOfBoth, TellsOfDeclared, TellsOfDefinition, TellsOfMachine, TellsOfOne, TellsInstead, leniently, unsettled_leniently, unbroken, inferred, stopped, unsettled, both_read, definition_reads, declared_reads, neither_reads, alone_reads, alone_refused}
-use Rattle.asl_problems.specs.Told.{Told, of_complaint, of_finding}
+use Rattle.asl_problems.specs.Told.{Told, of_complaint, of_finding, of_record}
 use Rattle.asl_draft_laws.proofs.OneAnswer.{nothing_told, settles}
 
 -- the first one is contained
@@ -30,10 +31,10 @@ map_none : {A B : Type 0} (f : A → B) (xs : List A) → map f xs ≡ [] → xs
 map_none f [] e = refl
 map_none f (x ∷ xs) e = absurd (cc)
 
--- a list with a last element isn't empty
-none_behind : {A : Type 0} (xs : List A) (x : A) → xs ++ x ∷ [] ≡ [] → ⊥
-none_behind [] x e = absurd (cc)
-none_behind (y ∷ ys) x e = absurd (cc)
+-- nor are the first of two lists that are empty together
+first_none : {A : Type 0} (xs ys : List A) → xs ++ ys ≡ [] → xs ≡ []
+first_none [] ys e = refl
+first_none (x ∷ xs) ys e = absurd (cc)
 
 -- ---- refused texts
 
@@ -47,10 +48,14 @@ definition_fault : (text : Bytes) (told : List Told) → TellsOfDefinition text 
 definition_fault text told (tells.definition_no_json h) = (NotJson, definition_no_json h)
 definition_fault text told (tells.definition_refused {v = v} r some) = complaint_fault text v (complaints v) r refl some
 
-declared_fault : (text : Bytes) (told : Told) → TellsOfDeclared text told → (f : TextFault) × IsDeclaredFault text f
+record_fault : (text : Bytes) (v : Data) (cs : List RecordComplaint) → ReadsAsValue text v → declared_complaints v ≡ cs → declared_complaints v ≢ [] → (f : TextFault) × IsDeclaredFault text f
+record_fault text v [] r same some = absurd (some same)
+record_fault text v (c ∷ cs) r same some = (BadRecord c, declared_complaint r (record { listed = subst (λ all. Contains all c) (sym same) (first c cs) }))
+
+declared_fault : (text : Bytes) (told : List Told) → TellsOfDeclared text told → (f : TextFault) × IsDeclaredFault text f
 declared_fault text told (tells.declared_no_json h) = (NotJson, declared_no_json h)
 declared_fault text told (tells.declared_not_whole r h) = (NotWhole, declared_not_whole r h)
-declared_fault text told (tells.declared_refused {c = c} r h) = (BadRecord c, declared_complaint r h)
+declared_fault text told (tells.declared_refused {v = v} r some) = record_fault text v (declared_complaints v) r refl some
 
 -- so it doesn't read
 definition_unread : (text : Bytes) (told : List Told) (machine : Scope) → TellsOfDefinition text told → ReadsAsMachine text machine → ⊥
@@ -58,7 +63,7 @@ definition_unread text told machine t as_machine =
     let f = definition_fault text told t in
     definition_has_no_fault text machine f.0 as_machine f.1
 
-declared_unread : (text : Bytes) (told : Told) (shapes : Declared) → TellsOfDeclared text told → ReadsAsDeclared text shapes → ⊥
+declared_unread : (text : Bytes) (told : List Told) (shapes : Declared) → TellsOfDeclared text told → ReadsAsDeclared text shapes → ⊥
 declared_unread text told shapes t as_declared =
     let f = declared_fault text told t in
     declared_text_has_no_fault text shapes f.0 as_declared f.1
@@ -67,6 +72,11 @@ declared_unread text told shapes t as_declared =
 definition_told : (text : Bytes) (told : List Told) → TellsOfDefinition text told → told ≡ [] → ⊥
 definition_told text told (tells.definition_no_json h) e = absurd (cc)
 definition_told text told (tells.definition_refused {v = v} r some) e = some (map_none of_complaint (complaints v) e)
+
+declared_told : (text : Bytes) (told : List Told) → TellsOfDeclared text told → told ≡ [] → ⊥
+declared_told text told (tells.declared_no_json h) e = absurd (cc)
+declared_told text told (tells.declared_not_whole r h) e = absurd (cc)
+declared_told text told (tells.declared_refused {v = v} r some) e = some (map_none of_record (declared_complaints v) e)
 
 -- ---- a definition alone
 
@@ -109,9 +119,9 @@ none_told rounds machine shapes certified told i (unsettled never few) = absurd 
 
 pub yes_where_none : (rounds : ℕ) (definition declared : Bytes) (told : List Told) → TellsOfBoth rounds definition declared told → told ≡ [] → IsAcceptedAsInferred rounds definition declared
 yes_where_none rounds definition declared told (both_read m d t) e = yes rounds definition declared _ _ m d told t e
-yes_where_none rounds definition declared told (definition_reads m t) e = absurd (cc)
+yes_where_none rounds definition declared told (definition_reads m t) e = absurd (declared_told declared told t e)
 yes_where_none rounds definition declared told (declared_reads t d) e = absurd (definition_told definition told t e)
-yes_where_none rounds definition declared told (neither_reads t u) e = absurd (none_behind _ _ e)
+yes_where_none rounds definition declared told (neither_reads {told = front} {others = others} t u) e = absurd (definition_told definition front t (first_none front others e))
 
 pub other_where_some : (rounds : ℕ) (definition declared : Bytes) (told : List Told) → TellsOfBoth rounds definition declared told → told ≢ [] → IsFaulty rounds definition declared
 other_where_some rounds definition declared told (both_read m d t) some = other rounds definition declared _ _ m d told t some

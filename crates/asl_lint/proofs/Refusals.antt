@@ -1,13 +1,16 @@
 -- What is told of texts that are refused, and of lists by their lengths.
-use Rattle.std.proofs.Common.{◌≡◌, ◌==◌, ℕ, List, [], ◌∷◌, length, map, false, true, Option, Some, option_map, refl, sym, ap, ◌∙◌, subst}
+use Rattle.std.proofs.Common.{◌≡◌, ◌≢◌, ◌==◌, ℕ, List, [], ◌∷◌, length, map, false, true, refl, sym, ap, ◌∙◌, subst, arith}
+use Rattle.std.specs.List.{Contains}
 use Rattle.std.proofs.lemmas.Bool.{eqb-false, eqb-true}
 use Rattle.serde_json.specs.Data.{Data}
 use Rattle.asl_model.specs.Json.{ReadsAsValue}
-use Rattle.asl_model.specs.Records.{HasDeclaredFault, RecordComplaint}
+use Rattle.asl_model.specs.Records.{HasDeclaredFault, RecordComplaint, declared_complaints}
 use Rattle.asl_model.specs.Names.{Bytes}
 use Rattle.asl_model.specs.StandsFor.{complaints}
 use Rattle.asl_problems.specs.Told.{Told, of_complaint, of_record, told_by}
 use Rattle.asl_problems.specs.declared.problems.Problem.{Problem}
+use Rattle.asl_records.specs.Refusal.{Tells}
+use Rattle.asl_records.specs.declared.refusals.RecordRefusal.{RecordRefusal}
 use Rattle.asl_lint.specs.Tells.{TellsOfDeclared, TellsOfDefinition, declared_refused, definition_refused}
 
 -- some are there where they are more than none
@@ -31,9 +34,14 @@ refused_by text v problems reads each some =
     map_none [] e = refl
     map_none (p ∷ ps) e = absurd (cc)
 
--- a complaint of declared shapes is told of their text
-pub record_told : (text : Bytes) (v : Data) (told : Option RecordComplaint) (t : Told) → ReadsAsValue text v → option_map of_record told ≡ Some t → (c : RecordComplaint) × (told ≡ Some c) × HasDeclaredFault v c → TellsOfDeclared text t
-record_told text v told t reads is h =
-    let both : Some (of_record h.0) ≡ Some t = ap (option_map of_record) (sym h.1) ∙ is in
-    let same : of_record h.0 ≡ t = cc in
-    subst (TellsOfDeclared text) same (declared_refused reads h.2)
+-- those of a value that isn't read as declared shapes
+pub told_all : (text : Bytes) (v : Data) (told : List Told) → ReadsAsValue text v → told ≡ map of_record (declared_complaints v) → declared_complaints v ≢ [] → TellsOfDeclared text told
+told_all text v told reads each some = subst (TellsOfDeclared text) (sym each) (declared_refused reads some)
+
+-- where one is told, some stand
+pub some_stand : (v : Data) (refusal : RecordRefusal) → Tells refusal (HasDeclaredFault v) → declared_complaints v ≢ []
+some_stand v refusal h none = absurd (by (declared_complaints v) h.2.listed none)
+  where
+    by : (cs : List RecordComplaint) → Contains cs h.0 → cs ≡ [] → ⊥
+    by [] (i, within, is) e = omega (arith, within)
+    by (c ∷ cs) inside e = absurd (cc)

@@ -27,4 +27,4 @@ IsDefinition text (definition.Refused problems) = TellsOfDefinition text (map to
 -- so of the declared shapes
 abbrev pub IsDeclaration : Bytes → Declaration → Type 0
 IsDeclaration text (declaration.Declared declared) = ReadsAsDeclared text (declared_view declared)
-IsDeclaration text (declaration.Refused problem) = TellsOfDeclared text (told_by problem)
+IsDeclaration text (declaration.Refused problems) = TellsOfDeclared text (map told_by problems.items)

@@ -7,7 +7,7 @@ use Rattle.asl_model.specs.Json.{ReadsAsValue, tree_of}
 use Rattle.asl_model.specs.Machine.{Scope}
 use Rattle.asl_model.specs.Names.{Bytes}
 use Rattle.asl_model.specs.Numbering.{table_of}
-use Rattle.asl_model.specs.Records.{RecordComplaint, HasDeclaredFault}
+use Rattle.asl_model.specs.Records.{declared_complaints}
 use Rattle.asl_model.specs.StandsFor.{complaints}
 use Rattle.asl_model.specs.Texts.{IsNoJson, ReadsAsDeclared, ReadsAsMachine}
 use Rattle.asl_model.specs.Verdict.{Accepted, IsRight}
@@ -23,12 +23,13 @@ pub data TellsOfDefinition (text : Bytes) : List Told → Type 0 where
   definition_refused : {v : Data} → ReadsAsValue text v → complaints v ≢ []
       → TellsOfDefinition text (map of_complaint (complaints v))
 
--- of a text that reads as no declared shapes: it is no JSON, a number in it isn't whole, or a complaint
-pub data TellsOfDeclared (text : Bytes) : Told → Type 0 where
-  declared_no_json : IsNoJson text → TellsOfDeclared text not_json
-  declared_not_whole : {v : Data} → ReadsAsValue text v → tree_of v ≡ None → TellsOfDeclared text not_whole
-  declared_refused : {v : Data} {c : RecordComplaint} → ReadsAsValue text v → HasDeclaredFault v c
-      → TellsOfDeclared text (of_record c)
+-- of a text that reads as no declared shapes: it is no JSON, a number in it isn't whole, or each complaint of its value as
+-- declared shapes
+pub data TellsOfDeclared (text : Bytes) : List Told → Type 0 where
+  declared_no_json : IsNoJson text → TellsOfDeclared text (not_json ∷ [])
+  declared_not_whole : {v : Data} → ReadsAsValue text v → tree_of v ≡ None → TellsOfDeclared text (not_whole ∷ [])
+  declared_refused : {v : Data} → ReadsAsValue text v → declared_complaints v ≢ []
+      → TellsOfDeclared text (map of_record (declared_complaints v))
 
 -- each broken rule of the certificate, at least one
 pub record AreBroken (machine : Scope) (shapes : Declared) (certified : Certificate) (told : List Told) : Type 0 where
@@ -67,15 +68,15 @@ pub data TellsOfBoth (rounds : ℕ) (definition declared : Bytes) : List Told �
   both_read : {machine : Scope} {shapes : Declared} {told : List Told}
       → ReadsAsMachine definition machine → ReadsAsDeclared declared shapes
       → TellsOfMachine rounds machine shapes told → TellsOfBoth rounds definition declared told
-  definition_reads : {machine : Scope} {last : Told}
-      → ReadsAsMachine definition machine → TellsOfDeclared declared last
-      → TellsOfBoth rounds definition declared (last ∷ [])
+  definition_reads : {machine : Scope} {told : List Told}
+      → ReadsAsMachine definition machine → TellsOfDeclared declared told
+      → TellsOfBoth rounds definition declared told
   declared_reads : {shapes : Declared} {told : List Told}
       → TellsOfDefinition definition told → ReadsAsDeclared declared shapes
       → TellsOfBoth rounds definition declared told
-  neither_reads : {told : List Told} {last : Told}
-      → TellsOfDefinition definition told → TellsOfDeclared declared last
-      → TellsOfBoth rounds definition declared (told ++ last ∷ [])
+  neither_reads : {told others : List Told}
+      → TellsOfDefinition definition told → TellsOfDeclared declared others
+      → TellsOfBoth rounds definition declared (told ++ others)
 
 -- of a definition, and of declared shapes where they are given
 abbrev pub TellsOfTexts : ℕ → Bytes → Option Bytes → List Told → Type 0

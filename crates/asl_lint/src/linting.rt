@@ -26,7 +26,7 @@ pub struct Linted {
 /// What is told of a definition, and of declared shapes where they are given.
 ///
 /// A text that is no JSON is one error, where it breaks. A definition that is refused has an error for each of its
-/// complaints, declared shapes that are refused have one. Where both texts read, and the inference tells a finding in at most
+/// complaints, and so have declared shapes, of which a number that isn't whole is one error of its own. Where both texts read, and the inference tells a finding in at most
 /// `max_rounds` rounds, each rule is told that the certificate of lenient rounds breaks, or that finding; where the shapes
 /// don't settle, that; and no error where a certificate is inferred, since it breaks no rule. Warnings come to these, of what
 /// breaks no rule and is hardly meant; without declared shapes only those that the machine itself tells. All of it stands in

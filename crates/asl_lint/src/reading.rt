@@ -1,19 +1,19 @@
 //! What the two texts read as, or what is wrong with them.
-ghost use Rattle.std.specs.Prelude.{◌≡◌, ◌++◌, ◌∷◌, [], IfOk, None, map};
+ghost use Rattle.std.specs.Prelude.{◌≡◌, ◌≢◌, ◌++◌, ◌∷◌, [], IfOk, None, map};
 ghost use Rattle.serde_json.specs.Data.{Data};
 ghost use Rattle.serde_json.specs.View.{view};
 ghost use Rattle.asl_model.specs.Json.{ReadsAsTree, ReadsAsValue, tree_of};
 ghost use Rattle.asl_model.specs.Names.{Bytes};
-ghost use Rattle.asl_model.specs.Records.{HasDeclaredFault};
+ghost use Rattle.asl_model.specs.Records.{declared_complaints};
 ghost use Rattle.asl_model.specs.Texts.{IsNoJson};
-ghost use Rattle.asl_records.specs.Refusal.{Tells};
+ghost use Rattle.asl_records.specs.Values.{IsValue};
 ghost use Rattle.asl_lint.specs.Reading.{IsDeclaration, IsDefinition, IsValueOf};
 ghost use Rattle.asl_problems.specs.Told.{told_by};
 ghost use Rattle.asl_tree.specs.View.{view as tree_view};
 
 use asl_machine::Machine;
-use asl_problems::{Problem, Which, problems_of_value};
-use asl_records::{Declared, ReadFault, RecordRefusal, read_declared};
+use asl_problems::{Problem, Which, problems_of_declared, problems_of_value};
+use asl_records::{Declared, ReadFault, read_declared};
 use asl_tree::{OutOfMemory, Tree, TreeRefusal, read_value};
 use serde_json::Value;
 use std::alloc::Global;
@@ -32,7 +32,7 @@ pub(crate) enum Definition {
 pub(crate) enum Declaration {
     Declared(Declared),
     /// What is wrong with them.
-    Refused(Problem),
+    Refused(Vec<Problem>),
 }
 
 /// The definition that a text is.
@@ -84,18 +84,19 @@ pub(crate) fn read_declaration(alloc: Global, text: &[u8]) -> Result<Declaration
 {
     match asl_tree::read(alloc, text) {
         Ok(tree) => declaration_of(alloc, &tree),
-        Err(TreeRefusal::NotJson) => no_declaration(),
-        Err(TreeRefusal::NotWhole) => not_whole_declaration(),
+        Err(TreeRefusal::NotJson) => no_declaration(alloc),
+        Err(TreeRefusal::NotWhole) => not_whole_declaration(alloc),
         Err(TreeRefusal::OutOfMemory) => Err(OutOfMemory),
     }
 }
 
 /// What is told of declared shapes that are no JSON.
-fn no_declaration() -> Result<Declaration, OutOfMemory>
+fn no_declaration(alloc: Global) -> Result<Declaration, OutOfMemory>
     ensures { (text : Bytes) → IsNoJson text → IfOk result (IsDeclaration text) }
 {
     let problem = Problem::not_json(Which::Declared)?;
-    Ok(Declaration::Refused(problem))
+    let problems = added(Vec::new(alloc), problem)?;
+    Ok(Declaration::Refused(problems))
 }
 
 /// The declared shapes that a tree stands for.
@@ -105,27 +106,31 @@ fn declaration_of(alloc: Global, tree: &Tree) -> Result<Declaration, OutOfMemory
 {
     match read_declared(alloc, tree) {
         Ok(declared) => Ok(Declaration::Declared(declared)),
-        Err(ReadFault::Record(refusal)) => refused_declaration(refusal),
+        Err(ReadFault::Record(refusal)) => {
+            drop(refusal);
+            refused_declaration(alloc, tree)
+        }
         Err(ReadFault::OutOfMemory) => Err(OutOfMemory),
     }
 }
 
 /// What is told of declared shapes with a number that isn't whole.
-fn not_whole_declaration() -> Result<Declaration, OutOfMemory>
+fn not_whole_declaration(alloc: Global) -> Result<Declaration, OutOfMemory>
     ensures { (text : Bytes) (v : Data) → ReadsAsValue text v → tree_of v ≡ None
         → IfOk result (IsDeclaration text) }
 {
     let problem = Problem::not_whole()?;
-    Ok(Declaration::Refused(problem))
+    let problems = added(Vec::new(alloc), problem)?;
+    Ok(Declaration::Refused(problems))
 }
 
-/// What is told of declared shapes that are refused so.
-fn refused_declaration(refusal: RecordRefusal) -> Result<Declaration, OutOfMemory>
-    ensures { (text : Bytes) (v : Data) → ReadsAsValue text v → Tells refusal (HasDeclaredFault v)
-        → IfOk result (IsDeclaration text) }
+/// What is told of a tree that isn't read as declared shapes.
+fn refused_declaration(alloc: Global, tree: &Tree) -> Result<Declaration, OutOfMemory>
+    ensures { (text : Bytes) (v : Data) → ReadsAsValue text v → IsValue (tree_view tree.now) v
+        → declared_complaints v ≢ [] → IfOk result (IsDeclaration text) }
 {
-    let problem = Problem::record(refusal)?;
-    Ok(Declaration::Refused(problem))
+    let problems = problems_of_declared(alloc, tree)?;
+    Ok(Declaration::Refused(problems))
 }
 
 /// The JSON value that a text is, if it is one.

@@ -1,5 +1,5 @@
 //! What is told of two texts, or of one.
-ghost use Rattle.std.specs.Prelude.{◌≡◌, ℕ, IfOk, map, option_map};
+ghost use Rattle.std.specs.Prelude.{◌≡◌, ◌++◌, ℕ, IfOk, map, option_map};
 ghost use Rattle.asl_model.specs.Names.{Bytes};
 ghost use Rattle.asl_machine_table.specs.Table.{scope_in};
 ghost use Rattle.asl_records.specs.View.{declared_view};
@@ -9,7 +9,7 @@ ghost use Rattle.asl_lint.specs.Tells.{TellsOfBoth, TellsOfDefinition, TellsOfMa
 ghost use Rattle.asl_problems.specs.Told.{errors_of, told_by};
 
 use crate::inferring::judge;
-use crate::reading::{Declaration, Definition, added, read_declaration, read_definition};
+use crate::reading::{Declaration, Definition, read_declaration, read_definition};
 use asl_machine::Machine;
 use asl_problems::{Problem, add_warnings};
 use asl_records::{Declared, NumberedCertificate};
@@ -129,14 +129,11 @@ fn find_in_machine(
 {
     match declaration {
         Declaration::Declared(declared) => find_under(alloc, machine, &declared, max_rounds),
-        Declaration::Refused(problem) => {
-            let problems = added(Vec::new(alloc), problem)?;
-            Ok(Found {
-                problems,
-                machine: Some(machine),
-                certificate: None,
-            })
-        }
+        Declaration::Refused(problems) => Ok(Found {
+            problems,
+            machine: Some(machine),
+            certificate: None,
+        }),
     }
 }
 
@@ -167,9 +164,20 @@ fn find_behind(problems: Vec<Problem>, declaration: Declaration) -> Result<Found
 {
     match declaration {
         Declaration::Declared(_) => Ok(Found::refused(problems)),
-        Declaration::Refused(problem) => {
-            let all = added(problems, problem)?;
+        Declaration::Refused(others) => {
+            let all = joined(problems, others)?;
             Ok(Found::refused(all))
         }
     }
+}
+
+/// The problems with others behind them.
+fn joined(problems: Vec<Problem>, others: Vec<Problem>) -> Result<Vec<Problem>, OutOfMemory>
+    ensures { IfOk result (λ all. map told_by all.items
+        ≡ map told_by problems.items ++ map told_by others.items) }
+{
+    let mut all = problems;
+    let mut others = others;
+    all.append(&mut others)?;
+    Ok(all)
 }

@@ -4,12 +4,9 @@ use Rattle.std.specs.Borrow.{Bor}
 use Rattle.std.proofs.lemmas.List.{append_cancel_left, append_cancel_right}
 use Rattle.asl_model.specs.Names.{Bytes}
 use Rattle.asl_model.specs.Printed.{line_break, refusal_text, which_name}
-use Rattle.asl_model.specs.StandsFor.{Complaint}
 use Rattle.asl_model.specs.Texts.{DefinitionText}
-use Rattle.asl_machine.specs.View.{refusal_view}
-use Rattle.asl_machine.specs.declared.refusals.DefRefusal.{DefRefusal}
 use Rattle.asl_diagnostics.specs.declared.rules.Rule.{Rule}
-use Rattle.asl_problems.specs.Told.{of_complaint, refusals_told, told_by}
+use Rattle.asl_problems.specs.Told.{Told, told_by}
 use Rattle.asl_problems.specs.declared.problems.Problem.{Problem}
 use Rattle.asl_problems.proofs.Lists.{map_twice}
 
@@ -38,15 +35,15 @@ same_some (x ∷ xs) (y ∷ ys) e =
     let rest : map Some xs ≡ map Some ys = cc in
     ap (λ z. z ∷ xs) one ∙ ap (λ zs. y ∷ zs) (same_some xs ys rest)
 
--- each complaint is told
-pub complaints_told : (refusals : List DefRefusal) (complaints : List Complaint) (problems : List Problem) → map refusal_view refusals ≡ map Some complaints → map (λ p. Some (told_by p)) problems ≡ refusals_told refusals → map told_by problems ≡ map of_complaint complaints
-complaints_told refusals complaints problems seen told =
-    same_some (map told_by problems) (map of_complaint complaints)
+-- each complaint is told, which the refusals are
+pub complaints_told : {R C : Type 0} (see : R → Option C) (tell : C → Told) (refusals : List R) (complaints : List C) (problems : List Problem) → map see refusals ≡ map Some complaints → map (λ p. Some (told_by p)) problems ≡ map (λ r. option_map tell (see r)) refusals → map told_by problems ≡ map tell complaints
+complaints_told see tell refusals complaints problems seen told =
+    same_some (map told_by problems) (map tell complaints)
     (map_twice told_by Some problems ∙ told
-    ∙ sym (map_twice refusal_view (option_map of_complaint) refusals)
-    ∙ ap (map (option_map of_complaint)) seen
-    ∙ map_twice Some (option_map of_complaint) complaints
-    ∙ sym (map_twice of_complaint Some complaints))
+    ∙ sym (map_twice see (option_map tell) refusals)
+    ∙ ap (map (option_map tell)) seen
+    ∙ map_twice Some (option_map tell) complaints
+    ∙ sym (map_twice tell Some complaints))
 
 -- so where one is found
 pub if_named : (found : Option (Bor Rule)) (name : Bytes) → option_map (λ r. refusal_text DefinitionText r.now.id.now []) found ≡ Some (refusal_text DefinitionText name []) → IfSome found (λ rule. rule.now.id.now ≡ name)

@@ -9,6 +9,8 @@ use Rattle.asl_model.specs.StandsFor.{Complaint}
 use Rattle.asl_model.specs.Tree.{Tree}
 use Rattle.asl_tree.specs.View.{view}
 use Rattle.asl_machine.specs.View.{refusal_view}
+use Rattle.asl_records.specs.View.{complaint_view}
+use Rattle.asl_records.specs.declared.refusals.RecordRefusal.{RecordRefusal}
 use Rattle.asl_machine.specs.declared.refusals.DefRefusal.{DefRefusal}
 use Rattle.asl_diagnostics.specs.Rules.{not_settled_name}
 use Rattle.asl_diagnostics.specs.declared.Diagnostic.{Diagnostic}
@@ -94,6 +96,9 @@ told_by p = record {
 abbrev pub errors_of : List Problem → List Told
 errors_of ps = errors_in (map told_by ps)
 
--- what is told of each refusal; of one for want of memory, nothing
+-- what is told of each refusal of a definition, and of declared shapes; of one for want of memory, nothing
 abbrev pub refusals_told : List DefRefusal → List (Option Told)
 refusals_told refusals = map (λ refusal. option_map of_complaint (refusal_view refusal)) refusals
+
+abbrev pub records_told : List RecordRefusal → List (Option Told)
+records_told refusals = map (λ refusal. option_map of_record (complaint_view refusal)) refusals

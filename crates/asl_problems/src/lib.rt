@@ -1,25 +1,28 @@
 //! What is wrong with a definition and with declared shapes, or hardly meant, and where.
 //!
 //! A [`Problem`] is one thing that is wrong or odd, before it has a place. [`problems_of_value`] has the complaints of a
-//! definition, [`problems_of_findings`] the broken rules of a machine, [`add_warnings`] what is odd in one. [`diagnostics_of`]
-//! gives problems their places in the texts, and their messages.
+//! definition, [`problems_of_declared`] those of declared shapes, [`problems_of_findings`] the broken rules of a machine,
+//! [`add_warnings`] what is odd in one. [`diagnostics_of`] gives problems their places in the texts, and their messages.
 #![tactic(auto)]
 
 mod breaks;
+mod complaint_places;
 mod complaints;
 mod declared_places;
 mod definition_places;
 mod files;
 mod findings;
 mod found;
+mod groups;
 mod messages;
 mod nested;
 mod problems;
+mod scopes;
 mod sources;
 mod telling;
 mod warnings;
 
-pub use complaints::problems_of_value;
+pub use complaints::{problems_of_declared, problems_of_value};
 pub use files::File;
 pub use findings::problems_of_findings;
 pub use problems::{Problem, Which};

@@ -4,7 +4,7 @@ use crate::found::At;
 use crate::problems::{Kind, Problem};
 use asl_check::FindingFault;
 use asl_diagnostics::Rule;
-use asl_faults::{Words, refusal_of, string_at, text_at, text_from};
+use asl_faults::{Words, refusal_of, sentence_of_kind, string_at, text_at, text_from};
 use asl_machine::DefFault;
 use asl_places::{FaultKind, Wanted};
 use asl_records::RecordFault;
@@ -44,9 +44,7 @@ fn message_of(
         Kind::Complaint(fault) => about_complaint(alloc, *fault, problem, text_from(text, offset)),
         Kind::Record(RecordFault::MissingField) => about_absence(alloc, field),
         Kind::Record(RecordFault::UnknownField) => about_unknown(alloc, field),
-        Kind::Record(RecordFault::WrongKind) => {
-            sentence(alloc, "The value is of another kind than is wanted here")
-        }
+        Kind::Record(RecordFault::WrongKind) => about_wrong_kind(alloc, problem.rule, field),
         Kind::Finding(FindingFault::WrongKind, _) => about_kind(alloc, field),
         Kind::Finding(FindingFault::PathMayBeMissing, Some(path)) => {
             Ok(format!(in alloc; "{} may name nothing", path.text)?)
@@ -148,12 +146,16 @@ fn about_complaint(
         ),
         DefFault::UnknownType => about_string(alloc, problem.rule, text, "is no type of state"),
         DefFault::BadPath => about_string(alloc, problem.rule, text, "is no reference path"),
-        DefFault::WrongKind => sentence(
-            alloc,
-            "The value is of another kind than the field wants or out of its range, or the field may not stand \
-            beside another one that is there",
-        ),
+        DefFault::WrongKind => about_wrong_kind(alloc, problem.rule, field),
         _ => general(alloc, problem.rule),
+    }
+}
+
+/// About a value that isn't what its field wants.
+fn about_wrong_kind(alloc: Global, rule: &Rule, field: &str) -> Result<String, OutOfMemory> {
+    match sentence_of_kind(alloc, field)? {
+        Some(sentence) => Ok(sentence),
+        None => general(alloc, rule),
     }
 }
 

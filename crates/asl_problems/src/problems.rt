@@ -122,7 +122,7 @@ impl Problem {
     }
 
     /// A complaint of declared shapes. Refuses the one that there was no memory to tell.
-    pub fn record(refusal: RecordRefusal) -> Result<Problem, OutOfMemory>
+    pub(crate) fn record(refusal: RecordRefusal) -> Result<Problem, OutOfMemory>
         ensures { IfOk result
             (λ problem. option_map of_record (complaint_view refusal) ≡ Some (told_by problem)) }
     {

@@ -3,17 +3,18 @@ ghost use Rattle.std.specs.Prelude.{◌≡◌, IfOk, map};
 ghost use Rattle.asl_problems.specs.Told.{told_by, told_of};
 
 use crate::breaks::{break_of, first_fraction};
-use crate::declared_places::spot_in_declared;
+use crate::declared_places::{places_in_declared, spot_in_declared};
 use crate::definition_places::DefinitionPlaces;
 use crate::files::File;
 use crate::found::At;
+use crate::groups::{Groups, name_of_places};
 use crate::messages::message_at;
 use crate::problems::{Kind, Problem, Which};
+use crate::scopes::{Scoped, Text};
 use crate::sources::Outlined;
 use asl_diagnostics::Diagnostic;
-use asl_faults::{Index, Paths, fault_of_shape};
-use asl_places::{Places, Spot, States};
-use asl_records::RecordFault;
+use asl_faults::{Index, Paths};
+use asl_places::{Places, States};
 use asl_tree::OutOfMemory;
 use json::Scratch;
 use std::alloc::Global;
@@ -42,8 +43,10 @@ pub fn diagnostics_of<'f>(
         places: Places::of(alloc, definition.text)?,
         index: index_of(alloc, &outlined, definition.text)?,
         states: &states,
+        scoped: BTreeMap::new(alloc),
         paths: BTreeMap::new(alloc),
     };
+    subject.scoped = scoped_of(alloc, &subject, &problems)?;
     subject.paths = paths_of(alloc, &subject, &problems)?;
     tell_in(alloc, &subject, declared, problems)
 }
@@ -57,6 +60,8 @@ struct Subject<'s, 'f, 'a> {
     index: Option<Index<'s, 'a>>,
     /// The states of a definition that is JSON.
     states: &'s Option<States<'a>>,
+    /// All of them by name; none where no problem is a complaint of the definition.
+    scoped: BTreeMap<&'a str, Vec<Scoped>>,
     /// The paths in the values of fields in which problems tell some, by the token with which such a value begins.
     paths: BTreeMap<usize, Paths>,
 }
@@ -65,13 +70,14 @@ impl<'s, 'f, 'a> Subject<'s, 'f, 'a> {
     /// What is looked for places in, where it is a definition that is JSON.
     fn definition<'p>(&'p self, alloc: Global) -> Option<DefinitionPlaces<'p, 's, 'f, 'a>> {
         let text = self.file.text;
-        let paths = &self.paths;
+        let (scoped, paths) = (&self.scoped, &self.paths);
         match (&self.index, self.states) {
             (Some(index), Some(states)) => Some(DefinitionPlaces {
                 alloc,
                 text,
                 index,
                 states,
+                scoped,
                 paths,
             }),
             _ => None,
@@ -100,6 +106,7 @@ fn tell_in(
         places: Places::of(alloc, text)?,
         index: index_of(alloc, &outlined, text)?,
         states: &None,
+        scoped: BTreeMap::new(alloc),
         paths: BTreeMap::new(alloc),
     };
     tell_each(alloc, definition, &subject, problems)
@@ -135,6 +142,24 @@ fn index_of<'s, 'a>(
     }
 }
 
+/// All states of the definition by name, where some problem is a complaint of it.
+fn scoped_of<'a>(
+    alloc: Global,
+    definition: &Subject<'_, '_, 'a>,
+    problems: &[Problem],
+) -> Result<BTreeMap<&'a str, Vec<Scoped>>, OutOfMemory> {
+    let is_refused = problems
+        .iter()
+        .any(|problem| matches!(problem.kind, Kind::Complaint(_)));
+    match &definition.index {
+        Some(index) if is_refused => {
+            let text = definition.file.text;
+            Text { alloc, text, index }.states()
+        }
+        _ => Ok(BTreeMap::new(alloc)),
+    }
+}
+
 /// The paths in the values of the definition's fields in which problems tell some.
 fn paths_of(
     alloc: Global,
@@ -166,29 +191,31 @@ fn tell_each(
         (λ diagnostics. map told_of diagnostics.items ≡ map told_by problems.items) }
 {
     let mut diagnostics = Vec::new(alloc);
+    let mut groups = Groups::new(alloc);
     for problem in problems {
-        let told = tell(alloc, definition, declared, problem)?;
+        let told = tell(alloc, definition, declared, &mut groups, problem)?;
         diagnostics.push(told)?;
     }
     Ok(diagnostics)
 }
 
-/// A problem as a diagnostic.
+/// A problem as a diagnostic. The places of complaints that tell the same are kept, and each takes the next.
 fn tell(
     alloc: Global,
     definition: &Subject<'_, '_, '_>,
     declared: &Subject<'_, '_, '_>,
+    groups: &mut Groups,
     problem: Problem,
 ) -> Result<Diagnostic, OutOfMemory>
     ensures { IfOk result (λ diagnostic. told_of diagnostic ≡ told_by problem) }
 {
     match problem.which() {
         Which::Definition => {
-            let at = find_in_definition(alloc, definition, &problem)?;
+            let at = find_in_definition(alloc, definition, groups, &problem)?;
             tell_at(alloc, definition, at, problem)
         }
         Which::Declared => {
-            let at = find_in_declared(alloc, declared, &problem)?;
+            let at = find_in_declared(alloc, declared, groups, &problem)?;
             tell_at(alloc, declared, at, problem)
         }
     }
@@ -198,14 +225,22 @@ fn tell(
 fn find_in_definition(
     alloc: Global,
     definition: &Subject<'_, '_, '_>,
+    groups: &mut Groups,
     problem: &Problem,
 ) -> Result<At, OutOfMemory> {
-    if let Kind::NotJson(_) = problem.kind {
-        return Ok(At::byte(break_of(alloc, definition.file.text)?.byte));
-    }
-    match definition.definition(alloc) {
-        Some(places) => places.find(problem),
-        None => Ok(At::byte(0)),
+    match (&problem.kind, definition.definition(alloc)) {
+        (Kind::NotJson(_), _) => Ok(At::byte(break_of(alloc, definition.file.text)?.byte)),
+        (Kind::Complaint(fault), Some(places)) => {
+            let name = name_of_places(alloc, problem)?;
+            if !groups.has(&name) {
+                let (state, field) = (problem.state.as_deref(), problem.field.as_deref());
+                let alike = places.places_of_complaints(*fault, state, field)?;
+                groups.put(name.clone()?, alike)?;
+            }
+            groups.take(&name)
+        }
+        (_, Some(places)) => Ok(places.find(problem)),
+        (_, None) => Ok(At::byte(0)),
     }
 }
 
@@ -213,32 +248,24 @@ fn find_in_definition(
 fn find_in_declared(
     alloc: Global,
     declared: &Subject<'_, '_, '_>,
+    groups: &mut Groups,
     problem: &Problem,
 ) -> Result<At, OutOfMemory> {
     let text = declared.file.text;
     match (&problem.kind, &declared.index) {
         (Kind::NotJson(_), _) => Ok(At::byte(break_of(alloc, text)?.byte)),
         (Kind::NotWhole, _) => Ok(At::byte(first_fraction(alloc, text)?)),
-        (Kind::Record(RecordFault::BadShape(_)), Some(index)) => {
-            find_shape(alloc, index, text, spot_in_declared(index, problem))
+        (Kind::Record(_), Some(index)) => {
+            let name = name_of_places(alloc, problem)?;
+            if !groups.has(&name) {
+                let alike = places_in_declared(alloc, index, text, problem)?;
+                groups.put(name.clone()?, alike)?;
+            }
+            groups.take(&name)
         }
         (_, Some(index)) => Ok(At::byte(index.offset(spot_in_declared(index, problem)))),
         (_, None) => Ok(At::byte(0)),
     }
-}
-
-/// Where something is wrong with a shape in the declared shapes.
-fn find_shape(
-    alloc: Global,
-    index: &Index<'_, '_>,
-    text: &[u8],
-    spot: Spot,
-) -> Result<At, OutOfMemory> {
-    let found = fault_of_shape(alloc, index, text, spot)?;
-    Ok(At {
-        byte: index.offset(found.spot),
-        words: found.words,
-    })
 }
 
 /// A problem that is found in a file as a diagnostic.

@@ -1,7 +1,7 @@
-use Rattle.asl_records.specs.View.{complaint_view}
+use Rattle.std.proofs.Common.{map}
 use Rattle.asl_problems.specs.Told.{told_by}
-use Rattle.asl_lint.proofs.Refusals.{record_told}
+use Rattle.asl_lint.proofs.Refusals.{told_all}
 use Rattle.asl_lint.proofs.reading.refused_declaration.Goals as goal
 
 pub returns : goal.returns
-returns c = λ text v reads tells. record_told text v (complaint_view c.args.refusal) (told_by c.in_ok-problem.problem) reads c.in_ok-problem.ensures tells
+returns c = λ text v reads is some. told_all text v (map told_by c.in_ok-problems.problems.items) reads (c.in_ok-problems.ensures.each v is) some

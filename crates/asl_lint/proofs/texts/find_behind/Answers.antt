@@ -12,7 +12,7 @@ returns-in-Declared c = λ rounds definition declared told d.
 
 pub returns : goal.returns
 returns c = λ rounds definition declared told d.
-    let last = subst (IsDeclaration declared) c.in-Refused.is d in
+    let others = subst (IsDeclaration declared) c.in-Refused.is d in
     let all = c.in_ok-all-in-Refused.all.items in
     subst (λ ps. TellsOfBoth rounds definition declared (map told_by ps.items)) (sym c.refused-in-Refused.ensures)
-    (read_none rounds definition declared (told_by c.in-Refused.problem) (map told_by c.args.problems.items) (map told_by all) told last c.in_ok-all-in-Refused.ensures)
+    (read_none rounds definition declared (map told_by c.args.problems.items) (map told_by c.in-Refused.others.items) (map told_by all) told others c.in_ok-all-in-Refused.ensures)

@@ -1,4 +1,4 @@
-use Rattle.std.proofs.Common.{[], ◌∷◌, ◌++◌, map, ap, ◌∙◌, subst}
+use Rattle.std.proofs.Common.{map, subst}
 use Rattle.std.proofs.lemmas.Result.{IfOk-weaker}
 use Rattle.asl_lint.specs.Reading.{IsDeclaration}
 use Rattle.asl_problems.specs.Told.{told_by}
@@ -11,9 +11,6 @@ returns-in-Declared c =
     read_both c.args.max_rounds definition declared c.args.machine c.in-Declared.declared (map told_by found.problems.items) read (subst (IsDeclaration declared) c.in-Declared.is d) told)
     c.find_under.ensures
 
-pub returns-in_ok-problems-in-Refused : goal.returns-in_ok-problems-in-Refused
-returns-in_ok-problems-in-Refused c = λ definition declared read d.
-    let last = subst (IsDeclaration declared) c.in-Refused.is d in
-    let problems = c.in_ok-problems-in-Refused.problems.items in
-    read_one c.args.max_rounds definition declared c.args.machine (told_by c.in-Refused.problem) (map told_by problems) read last
-    (c.in_ok-problems-in-Refused.ensures ∙ ap (λ ps. map told_by ps ++ told_by c.in-Refused.problem ∷ []) c.new.ensures.items)
+pub returns-in-Refused : goal.returns-in-Refused
+returns-in-Refused c = λ definition declared read d.
+    read_one c.args.max_rounds definition declared c.args.machine (map told_by c.in-Refused.problems.items) read (subst (IsDeclaration declared) c.in-Refused.is d)

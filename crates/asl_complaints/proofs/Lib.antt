@@ -1,0 +1,4 @@
+pub mod Faults
+pub mod Keywords
+pub mod Parts
+pub mod Telling
