@@ -15,6 +15,9 @@ use std::rt::Files;
 /// How many steps the run of a case takes at most.
 const MOST_STEPS: u64 = 1_000_000;
 
+/// What is said of a suite in which nothing is tested.
+const NO_CASE: &str = "cases: there is no case";
+
 /// Which suites are tested, and how it is told.
 #[derive(Drop)]
 pub struct TestRequest<'a> {
@@ -38,7 +41,8 @@ struct Tests {
 }
 
 /// Plays the cases of the suites in files, writes which pass to standard output, and gives the exit status: 1 where one
-/// doesn't, 2 where a suite can't be used, or none has the case that is asked for, which is told on standard error.
+/// doesn't, 2 where a suite can't be used, has no case, or none has the case that is asked for, which is told on standard
+/// error.
 pub fn test_files<R: Files + Input + Print + Eprint + AllocGlobal>(
     rt: &R,
     request: &TestRequest<'_>,
@@ -72,6 +76,9 @@ fn tests_in<R: Files + Input + AllocGlobal>(
     };
     for name in &request.names {
         match load(rt, name) {
+            Ok(loaded) if loaded.cases.is_empty() => {
+                tests.note(rt.alloc(), name, NO_CASE)?;
+            }
             Ok(loaded) => tests.add(rt.alloc(), request, name, loaded)?,
             Err(Unfit::Why(why)) => tests.note(rt.alloc(), name, &why)?,
             Err(Unfit::OutOfMemory) => return Err(OutOfMemory),
