@@ -2,6 +2,8 @@
 
 use crate::causes::{Cause, Way};
 use crate::flows::Explainer;
+use crate::places::{Place, it_or};
+use crate::sources::Source;
 use crate::there::ITEM;
 use asl_check::{FindingFault, Located};
 use asl_diagnostics::rule_of_finding;
@@ -11,13 +13,13 @@ use asl_state_edges::{Broken, Step};
 use asl_states::Kind;
 use asl_tree::{OutOfMemory, quoted};
 
-impl Explainer<'_> {
+impl<'m> Explainer<'m> {
     /// What usually helps against a finding; `on_some_way` says that there is another way on which the rule isn't broken.
     pub(crate) fn help_for(
         &self,
         shapes: &mut Shapes,
         located: &Located,
-        cause: Option<&Cause>,
+        cause: Option<&Cause<'m>>,
         on_some_way: bool,
     ) -> Result<String, OutOfMemory> {
         let finding = &located.finding;
@@ -138,7 +140,7 @@ impl Explainer<'_> {
         &self,
         shapes: &mut Shapes,
         fault: FindingFault,
-        cause: Option<&Cause>,
+        cause: Option<&Cause<'m>>,
         on_some_way: bool,
     ) -> Result<String, OutOfMemory> {
         let Some(cause) = cause else {
@@ -154,18 +156,75 @@ impl Explainer<'_> {
         else {
             return self.general(fault);
         };
-        let whole = self.whole_at(shapes, cause, field, path.shape)?;
         match stop_of(self.alloc, shapes, path.shape, path.path, path.segment)? {
-            Some(stop) if !stop.is_field => self.help_with_element(whole, &stop),
-            Some(stop) => self.help_with_field(field, whole, &stop, cause, on_some_way),
+            Some(stop) => {
+                let place = self.place_of_stop(shapes, cause, field, &path, &stop)?;
+                self.help_at_place(field, &place, &stop, cause, on_some_way)
+            }
             None => self.general(fault),
         }
     }
 
+    /// To see that there is something at a place, by what it comes from.
+    fn help_at_place(
+        &self,
+        field: &str,
+        place: &Place,
+        stop: &Stop,
+        cause: &Cause,
+        on_some_way: bool,
+    ) -> Result<String, OutOfMemory> {
+        match (self.maker_of(place, cause), place.source) {
+            (Some(maker), _) => self.help_with_maker(field, place, maker),
+            (None, Some(Source::Emptied)) => self.help_with_emptied(place),
+            _ if stop.is_field => self.help_with_field(field, place, stop, cause, on_some_way),
+            _ => self.help_with_element(place),
+        }
+    }
+
+    /// The field of the definition that makes the data at a place, where it is made there.
+    fn maker_of(&self, place: &Place, cause: &Cause) -> Option<&'static str> {
+        let state = self.machine.state(cause.state)?;
+        match (place.source?, &state.kind) {
+            (Source::Made(field), _) => Some(field),
+            (Source::Work, Kind::Pass { .. }) => Some("Result"),
+            _ => None,
+        }
+    }
+
+    /// To have a template or a Result make what a path of that field names, or to have the path name what is made.
+    fn help_with_maker(
+        &self,
+        field: &str,
+        place: &Place,
+        maker: &str,
+    ) -> Result<String, OutOfMemory> {
+        let absent = place.absent.as_str();
+        let source = match maker {
+            "Parameters" => "input",
+            "ResultSelector" => "result",
+            _ => return Ok(format!(in self.alloc;
+                "Add {absent} to {maker}, or let {field} name something that it has."
+            )?),
+        };
+        Ok(format!(in self.alloc;
+            "Add {absent} to what {maker} makes, or let {field} name something that it makes: nothing else of the {source} is \
+            left behind it."
+        )?)
+    }
+
+    /// To keep an input of which nothing is left.
+    fn help_with_emptied(&self, place: &Place) -> Result<String, OutOfMemory> {
+        let absent = place.absent.as_str();
+        Ok(format!(in self.alloc;
+            "Take out \"InputPath\": null, which leaves {{}} of the input; or do without {absent} here."
+        )?)
+    }
+
     /// To see that an element is there.
-    fn help_with_element(&self, whole: &str, stop: &Stop) -> Result<String, OutOfMemory> {
-        let list = match stop.front.as_str() {
-            "$" => whole,
+    fn help_with_element(&self, place: &Place) -> Result<String, OutOfMemory> {
+        let list = match place.front.as_str() {
+            "$" => place.whole,
             front => front,
         };
         Ok(format!(in self.alloc;
@@ -179,112 +238,134 @@ impl Explainer<'_> {
     fn help_with_field(
         &self,
         field: &str,
-        whole: &str,
+        place: &Place,
         stop: &Stop,
         cause: &Cause,
         on_some_way: bool,
     ) -> Result<String, OutOfMemory> {
+        let is_set = on_some_way && self.goes_into_input(cause.state, field);
+        let named = if is_set { &place.absent } else { &place.unsure };
         let test = if stop.is_narrowed {
-            self.words_on_test(field, whole, cause)
+            self.words_on_test(field, place, named)?
         } else {
-            ""
+            String::new(self.alloc)
         };
-        let have = self.help_to_have(field, whole, &stop.absent, cause, on_some_way)?;
-        let limit = self.limit_of_test(stop)?;
+        let have = self.help_to_have(place, cause, on_some_way, is_set)?;
+        let limit = self.limit_of_test(place, stop)?;
         Ok(format!(in self.alloc; "{have}{test}.{limit}")?)
     }
 
     /// That a test for a field doesn't do where a value may be anything; empty where it may not.
-    fn limit_of_test(&self, stop: &Stop) -> Result<String, OutOfMemory> {
+    fn limit_of_test(&self, place: &Place, stop: &Stop) -> Result<String, OutOfMemory> {
         if !stop.is_anything {
             return Ok(String::new(self.alloc));
         }
+        let value = match (place.source, place.front.as_str()) {
+            (Some(Source::Work), "$") => place.whole,
+            (_, front) => front,
+        };
         Ok(format!(in self.alloc;
-            " As long as {} may be anything, IsPresent doesn't make sure of its fields.",
-            stop.front
+            " As long as {value} may be anything, IsPresent doesn't make sure of its fields."
         )?)
     }
 
-    /// To have a field on every way.
+    /// To have a field on every way; `is_set` says that a state in front can set it.
     fn help_to_have(
         &self,
-        field: &str,
-        whole: &str,
-        absent: &str,
+        place: &Place,
         cause: &Cause,
         on_some_way: bool,
+        is_set: bool,
     ) -> Result<String, OutOfMemory> {
-        if self.own_result(cause.state, field).is_some() {
-            self.help_with_result(absent, cause)
+        if let Some(Source::Work) = place.source {
+            self.help_with_result(place, cause)
         } else if on_some_way {
-            self.help_on_one_way(whole, absent, self.goes_into_input(cause.state, field))
+            self.help_on_one_way(place, is_set)
         } else {
-            self.help_on_all_ways(whole, absent, cause)
+            self.help_on_all_ways(place, cause)
         }
     }
 
-    /// To have a field also on the way on which it may be absent; `is_direct` says that it is looked up in the input itself.
-    fn help_on_one_way(
-        &self,
-        whole: &str,
-        absent: &str,
-        is_direct: bool,
-    ) -> Result<String, OutOfMemory> {
-        if is_direct {
+    /// To have a field also on the way on which it may be absent; `is_set` says that a state in front can set it.
+    fn help_on_one_way(&self, place: &Place, is_set: bool) -> Result<String, OutOfMemory> {
+        let Place {
+            whole,
+            absent,
+            unsure,
+            ..
+        } = place;
+        if is_set {
             Ok(format!(in self.alloc;
                 "Set {absent} on that way, too, for example by a Pass with Result and ResultPath"
             )?)
         } else {
-            Ok(format!(in self.alloc; "See that {whole} has {absent} on that way, too")?)
+            Ok(format!(in self.alloc; "See that {whole} has {unsure} on that way, too")?)
         }
     }
 
     /// To have a field that may be absent on all ways.
-    fn help_on_all_ways(
-        &self,
-        whole: &str,
-        absent: &str,
-        cause: &Cause,
-    ) -> Result<String, OutOfMemory> {
+    fn help_on_all_ways(&self, place: &Place, cause: &Cause) -> Result<String, OutOfMemory> {
+        let (whole, unsure) = (place.whole, place.unsure.as_str());
         if whole == ITEM {
             Ok(format!(in self.alloc;
-                "See that each item has {absent}; where the list comes from the machine's input or from a task, and each item always \
+                "See that each item has {unsure}; where the list comes from the machine's input or from a task, and each item always \
                 has it, say so in what is declared of its \"items\""
             )?)
         } else if self.is_at_start(cause) {
             Ok(format!(in self.alloc;
-                "See that {whole} has {absent}; if the machine's input always has it, say so in the declared \"input\""
+                "See that {whole} has {unsure}; if the machine's input always has it, say so in the declared \"input\""
             )?)
         } else {
             Ok(format!(in self.alloc;
-                "See that {whole} has {absent}: set it in a state in front, keep it where a state in front drops it, or declare it \
+                "See that {whole} has {unsure}: set it in a state in front, keep it where a state in front drops it, or declare it \
                 as required where it comes from the machine's input or from a task that always gives it"
             )?)
         }
     }
 
-    /// How to test for a field.
-    fn words_on_test(&self, field: &str, whole: &str, cause: &Cause) -> &'static str {
-        if self.own_result(cause.state, field).is_some() {
-            return "; or do without it here, and test for it by IsPresent in a Choice behind";
+    /// How to test for a field; `named` is the path that was told last.
+    fn words_on_test(
+        &self,
+        field: &str,
+        place: &Place,
+        named: &str,
+    ) -> Result<String, OutOfMemory> {
+        let alloc = self.alloc;
+        if let Some(Source::Work) = place.source {
+            let left_out = if field == "OutputPath" { field } else { "it" };
+            let Some(behind) = &place.behind else {
+                return Ok(format!(in alloc; "; or do without {left_out} here")?);
+            };
+            let it = it_or(named, behind);
+            return Ok(format!(in alloc;
+                "; or do without {left_out} here, and test for {it} by IsPresent in a Choice behind"
+            )?);
         }
-        if whole == ITEM {
-            return "; or hand on the whole item, and test for it by IsPresent in a Choice with which the processor begins";
+        if place.whole == ITEM {
+            let words =
+                "; or hand on the whole item, and test for it by IsPresent in a Choice with which the processor begins";
+            return self.sentence(words);
         }
-        match field {
-            "Choices" => "; or test for it first in the rule, by an And with IsPresent in front",
-            _ =>
-                "; or test for it by IsPresent in a Choice in front, and come here by that rule alone",
+        if field == "Choices" {
+            let it = it_or(named, &place.own);
+            return Ok(format!(in alloc;
+                "; or test for {it} first in the rule, by an And with IsPresent in front"
+            )?);
         }
+        let it = it_or(named, &place.unsure);
+        Ok(format!(in alloc;
+            "; or test for {it} by IsPresent in a Choice in front, and come here by that rule alone"
+        )?)
     }
 
     /// To have a field in a result.
-    fn help_with_result(&self, absent: &str, cause: &Cause) -> Result<String, OutOfMemory> {
+    fn help_with_result(&self, place: &Place, cause: &Cause) -> Result<String, OutOfMemory> {
+        let unsure = place.unsure.as_str();
         match self.machine.state(cause.state) {
             Some(state) if state.kind.is_task() => Ok(format!(in self.alloc;
-                "If the task always gives {absent}, say so in its declared \"gives\""
+                "If the task always gives {unsure}, say so in its declared \"gives\""
             )?),
-            _ => Ok(format!(in self.alloc; "See that the result has {absent}")?),
+            _ => Ok(format!(in self.alloc; "See that the result has {unsure}")?),
         }
     }
 

@@ -1,17 +1,36 @@
-//! Data that comes from a state's own result and not from its input.
+//! Data that comes from a state's own result, or from what its settings make, and not from its input.
 
+use crate::causes::Cause;
 use crate::flows::Explainer;
+use crate::sources::Source;
+use asl_numbered::Shapes;
 use asl_path::RefPath;
+use asl_state_edges::{Broken, Step};
 use asl_states::{Kind, State};
+use asl_tree::OutOfMemory;
 
 impl<'m> Explainer<'m> {
-    /// Where data of that field comes from, where that is the state's own result, whatever its input is.
-    pub(crate) fn own_result(&self, state: usize, field: &str) -> Option<&'static str> {
-        let state = self.machine.state(state)?;
-        match field {
-            "ResultSelector" => result_of(state),
-            "OutputPath" if is_whole(&state.settings.result_path) => result_of(state),
-            _ => None,
+    /// Where the data comes from with which the rule of a field is broken, where that isn't the state's input.
+    pub(crate) fn own_origin(
+        &self,
+        shapes: &mut Shapes,
+        cause: &Cause<'m>,
+        field: &str,
+    ) -> Result<Option<&'static str>, OutOfMemory> {
+        let Some(state) = self.machine.state(cause.state) else {
+            return Ok(None);
+        };
+        match cause.step {
+            Step::Breaks(
+                Broken {
+                    path: Some(path),
+                    ..
+                },
+            ) => match self.source_of_path(shapes, cause, field, &path)? {
+                Some(traced) => Ok(words_on(&traced.source, state)),
+                None => Ok(None),
+            },
+            Step::Breaks(_) | Step::Flows(_) => Ok(own_result(state, field)),
         }
     }
 
@@ -28,6 +47,26 @@ impl<'m> Explainer<'m> {
             }
             _ => false,
         }
+    }
+}
+
+/// What a source is, where it isn't the state's input.
+fn words_on(source: &Source, state: &State) -> Option<&'static str> {
+    match source {
+        Source::Input => None,
+        Source::Work => result_of(state),
+        Source::Emptied => Some("InputPath null, which leaves {} of the input"),
+        Source::Made("Parameters") => Some("what Parameters makes of the input"),
+        Source::Made(_) => Some("what ResultSelector makes of the result"),
+    }
+}
+
+/// Where data of that field comes from, where that is the state's own result, whatever its input is.
+fn own_result(state: &State, field: &str) -> Option<&'static str> {
+    match field {
+        "ResultSelector" => result_of(state),
+        "OutputPath" if is_whole(&state.settings.result_path) => result_of(state),
+        _ => None,
     }
 }
 

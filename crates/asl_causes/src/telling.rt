@@ -84,8 +84,8 @@ impl<'m> Explainer<'m> {
         located: &Located,
         cause: &Cause<'m>,
     ) -> Result<usize, OutOfMemory> {
-        if let Some(result) = self.own_result(cause.state, &located.finding.field) {
-            push_line(text, "It comes so from: ", result)?;
+        if let Some(origin) = self.own_origin(shapes, cause, &located.finding.field)? {
+            push_line(text, "It comes so from: ", origin)?;
             return Ok(0);
         }
         let way = self.way_text(cause.way)?;

@@ -8,11 +8,21 @@ use std::alloc::Global;
 /// How many levels are gone down to the place.
 const MOST_LEVELS: usize = 64;
 
+/// How a place in a value is reached from the value around it.
+#[derive(Drop)]
+pub enum Piece {
+    /// By the field of that name.
+    Field(String),
+    /// By the element of that number, counted from 0.
+    Element(usize),
+    /// By any element behind the first ones.
+    Rest,
+}
+
 /// A part of two shapes: a field or an element.
 #[derive(Drop)]
 struct Part {
-    /// How a path goes to it.
-    step: String,
+    piece: Piece,
     /// The number of its shape in the first.
     inner: usize,
     /// The number of its shape in the second.
@@ -39,6 +49,12 @@ pub struct Apart {
     pub text: String,
     /// How the value may lack the other shape there.
     pub lack: Lack,
+    /// How the place is reached.
+    pub place: Vec<Piece>,
+    /// The number of the value's shape there.
+    pub inner: usize,
+    /// The number of the shape that is wanted there.
+    pub outer: usize,
 }
 
 /// What a value may lack of a shape on its first level: in words, and how.
@@ -54,34 +70,46 @@ pub fn difference(
     outer: usize,
     who: &str,
 ) -> Result<Apart, OutOfMemory> {
-    let mut text = String::from_str(alloc, "$")?;
-    let (told, lack) = lack_below(alloc, shapes, &mut text, (inner, outer), who)?;
-    text.push_str(&told)?;
-    Ok(Apart { text, lack })
+    let mut apart = Apart {
+        text: String::from_str(alloc, "$")?,
+        lack: Lack::Other,
+        place: Vec::new(alloc),
+        inner,
+        outer,
+    };
+    let (told, lack) = lack_below(alloc, shapes, &mut apart, who)?;
+    apart.text.push_str(&told)?;
+    apart.lack = lack;
+    Ok(apart)
 }
 
-/// What a value of the first shape of the pair may lack of the second on the first level where it may lack something; the
-/// steps down to there are put behind the place.
+/// What a value of the first shape may lack of the second on the first level where it may lack something; the pieces down to
+/// there are put behind the place.
 fn lack_below(
     alloc: Global,
     shapes: &mut Shapes,
-    place: &mut String,
-    pair: (usize, usize),
+    apart: &mut Apart,
     who: &str,
 ) -> Result<Lacking, OutOfMemory> {
-    let (mut inner, mut outer) = pair;
     for _ in 0..MOST_LEVELS {
-        if let Some(told) = lack_between(alloc, shapes, inner, outer, who)? {
+        if let Some(told) = lack_between(alloc, shapes, apart.inner, apart.outer, who)? {
             return Ok(told);
         }
-        let Some(part) = part_apart(alloc, shapes, inner, outer)? else {
+        let Some(part) = part_apart(alloc, shapes, apart.inner, apart.outer)? else {
             break;
         };
-        place.push_str(&part.step)?;
-        inner = part.inner;
-        outer = part.outer;
+        go_to(alloc, apart, part)?;
     }
-    unnamed_lack(alloc, shapes, outer, who)
+    unnamed_lack(alloc, shapes, apart.outer, who)
+}
+
+/// Goes down to a part.
+fn go_to(alloc: Global, apart: &mut Apart, part: Part) -> Result<(), OutOfMemory> {
+    apart.text.push_str(&step_to(alloc, &part.piece)?)?;
+    apart.place.push(part.piece)?;
+    apart.inner = part.inner;
+    apart.outer = part.outer;
+    Ok(())
 }
 
 /// That a value may not be what is wanted, where it isn't known what it lacks.
@@ -317,7 +345,7 @@ fn parts_between(
         push_fields(alloc, &mut parts, objects, others)?;
     }
     if let (Some(lists), Some(others)) = (&kinds.arrays, &wanted.arrays) {
-        push_elements(alloc, &mut parts, lists, others)?;
+        push_elements(&mut parts, lists, others)?;
     }
     Ok(parts)
 }
@@ -332,7 +360,7 @@ fn push_fields(
     for (name, field) in objects.fields.iter() {
         if let Some(other) = wanted.fields.get(name.as_str()) {
             parts.push(Part {
-                step: step_to(alloc, name)?,
+                piece: Piece::Field(String::from_str(alloc, name)?),
                 inner: field.shape,
                 outer: other.shape,
             })?;
@@ -341,8 +369,17 @@ fn push_fields(
     Ok(())
 }
 
-/// How a path goes to a field: behind a dot where the name is a word.
-fn step_to(alloc: Global, name: &str) -> Result<String, OutOfMemory> {
+/// How a path is told to go on by a piece.
+fn step_to(alloc: Global, piece: &Piece) -> Result<String, OutOfMemory> {
+    match piece {
+        Piece::Field(name) => step_to_field(alloc, name),
+        Piece::Element(number) => Ok(format!(in alloc; "[{number}]")?),
+        Piece::Rest => Ok(String::from_str(alloc, "[..]")?),
+    }
+}
+
+/// How a path is told to go on to a field: behind a dot where the name is a word.
+fn step_to_field(alloc: Global, name: &str) -> Result<String, OutOfMemory> {
     if !name.is_empty() && name.bytes().all(is_in_word) {
         return Ok(format!(in alloc; ".{name}")?);
     }
@@ -357,7 +394,6 @@ fn is_in_word(byte: u8) -> bool {
 
 /// Adds the elements at each place, and those behind.
 fn push_elements(
-    alloc: Global,
     parts: &mut Vec<Part>,
     lists: &NodeArrays,
     wanted: &NodeArrays,
@@ -365,13 +401,13 @@ fn push_elements(
     for (place, inner) in lists.first.iter().enumerate() {
         let outer = wanted.first.get(place).copied().unwrap_or(wanted.rest);
         parts.push(Part {
-            step: format!(in alloc; "[{place}]")?,
+            piece: Piece::Element(place),
             inner: *inner,
             outer,
         })?;
     }
     parts.push(Part {
-        step: String::from_str(alloc, "[..]")?,
+        piece: Piece::Rest,
         inner: lists.rest,
         outer: wanted.rest,
     })?;

@@ -100,12 +100,34 @@ fn goes_into(shapes: &Shapes, number: usize, segment: &Segment) -> bool {
 
 /// The text of the first `many` segments of a path, cut where it is long. Refuses only where an allocation was refused.
 pub fn front_of(alloc: Global, path: &RefPath, many: usize) -> Result<String, OutOfMemory> {
+    let mut text = String::from_str(alloc, "$")?;
+    text.push_str(&stretch_of(alloc, path, 0, many)?)?;
+    cut(alloc, &text)
+}
+
+/// The text of the segments of a path from the one of that number on, counted from 0, up to the first `many`. Refuses only
+/// where an allocation was refused.
+pub fn stretch_of(
+    alloc: Global,
+    path: &RefPath,
+    first: usize,
+    many: usize,
+) -> Result<String, OutOfMemory> {
     let text = print(alloc, path)?;
+    let (start, end) = (
+        byte_behind(&text, path, first),
+        byte_behind(&text, path, many),
+    );
+    Ok(String::from_str(alloc, text.get(start..end).unwrap_or(""))?)
+}
+
+/// The byte behind the first `many` segments of a path that is printed so.
+fn byte_behind(text: &str, path: &RefPath, many: usize) -> usize {
     let mut end = 1;
     for segment in path.segments().iter().take(many) {
-        end = end_of(&text, end, segment);
+        end = end_of(text, end, segment);
     }
-    cut(alloc, text.get(..end).unwrap_or(&text))
+    end
 }
 
 /// The byte behind a segment that begins at that byte of a printed path.
