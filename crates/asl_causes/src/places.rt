@@ -6,6 +6,7 @@ use crate::results::is_whole;
 use crate::sources::{Source, Traced};
 use asl_flow::DoubtfulPath;
 use asl_numbered::Shapes;
+use asl_path::RefPath;
 use asl_phrases::{Stop, cut, front_of, stretch_of};
 use asl_states::Settings;
 use asl_tree::OutOfMemory;
@@ -22,7 +23,7 @@ pub(crate) struct Place {
     pub(crate) front: String,
     /// The path up to what this value may lack.
     pub(crate) absent: String,
-    /// The path up to it that what helps names.
+    /// The path up to the last part that may be absent.
     pub(crate) unsure: String,
     /// The same path as the state's field has it.
     pub(crate) own: String,
@@ -43,8 +44,8 @@ impl<'m> Explainer<'m> {
     ) -> Result<Place, OutOfMemory> {
         let whole = self.whole_at(shapes, cause, field, path.shape)?;
         match self.source_of_path(shapes, cause, field, path)? {
-            Some(traced) => self.traced_place(cause, field, path, (whole, &traced)),
-            None => own_place(whole, stop),
+            Some(traced) => self.traced_place(cause, field, path, stop, (whole, &traced)),
+            None => self.own_place(whole, path.path, stop),
         }
     }
 
@@ -54,9 +55,10 @@ impl<'m> Explainer<'m> {
         cause: &Cause<'m>,
         field: &str,
         path: &DoubtfulPath<'m>,
+        stop: &Stop,
         found: (&'static str, &Traced<'m>),
     ) -> Result<Place, OutOfMemory> {
-        let (alloc, many) = (self.alloc, path.segment.saturating_add(1));
+        let (alloc, many) = (self.alloc, stop.many_unsure);
         let (whole, traced) = found;
         let own = front_of(alloc, path.path, many)?;
         let unsure = traced.text(alloc, path.path, many)?;
@@ -75,20 +77,25 @@ impl<'m> Explainer<'m> {
             behind,
         })
     }
-}
 
-/// The place in the words of its field.
-fn own_place(whole: &'static str, stop: &Stop) -> Result<Place, OutOfMemory> {
-    let own = stop.absent.clone()?;
-    Ok(Place {
-        source: None,
-        whole,
-        front: stop.front.clone()?,
-        absent: own.clone()?,
-        unsure: own.clone()?,
-        own,
-        behind: None,
-    })
+    /// The place in the words of its field.
+    fn own_place(
+        &self,
+        whole: &'static str,
+        path: &RefPath,
+        stop: &Stop,
+    ) -> Result<Place, OutOfMemory> {
+        let own = front_of(self.alloc, path, stop.many_unsure)?;
+        Ok(Place {
+            source: None,
+            whole,
+            front: stop.front.clone()?,
+            absent: stop.absent.clone()?,
+            unsure: own.clone()?,
+            own,
+            behind: None,
+        })
+    }
 }
 
 /// What the paths of a traced place go into; `whole` is what its field looks them up in.

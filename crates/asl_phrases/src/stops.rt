@@ -15,6 +15,8 @@ pub struct Stop {
     pub front: String,
     /// The text of the path up to what may be absent.
     pub absent: String,
+    /// How many segments of the path end with the last one that may name nothing.
+    pub many_unsure: usize,
     /// Why it may be absent, in words that go on behind the shape.
     pub why: String,
     /// Whether what may be absent is a field.
@@ -45,11 +47,45 @@ pub fn stop_of(
         shape,
         front: front_of(alloc, path, many)?,
         absent: front_of(alloc, path, many.saturating_add(1))?,
+        many_unsure: many_unsure(shapes, number, path, many.saturating_add(1)),
         why: why_absent(alloc, shapes, shape, segment)?,
         is_field: matches!(segment, Segment::Name(_)),
         is_anything: shapes.take_apart(shape).is_none(),
         is_narrowed: is_narrowed(shapes, number, path),
     }))
+}
+
+/// How many segments of a path end with the last one that may name nothing in a value of the shape of that number, where the
+/// last of the first `many` may.
+fn many_unsure(shapes: &Shapes, number: usize, path: &RefPath, many: usize) -> usize {
+    let mut end = many;
+    for (place, segment) in path.segments().iter().enumerate().skip(many) {
+        let part = part_at(shapes, number, path, place);
+        if !part.is_some_and(|part| is_sure(shapes, part, segment)) {
+            end = place.saturating_add(1);
+        }
+    }
+    end
+}
+
+/// Whether a segment names something in each value of the shape of that number.
+fn is_sure(shapes: &Shapes, number: usize, segment: &Segment) -> bool {
+    let Some(kinds) = shapes.take_apart(number) else {
+        return false;
+    };
+    if has_simple(&kinds) {
+        return false;
+    }
+    match (segment, kinds.objects, kinds.arrays) {
+        (Segment::Name(name), Some(objects), None) => {
+            objects
+                .fields
+                .get(name.as_str())
+                .is_some_and(|field| field.needed)
+        }
+        (Segment::Index(index), None, Some(lists)) => lists.first.len() > *index as usize,
+        _ => false,
+    }
 }
 
 /// The number of the shape of what the first `many` segments of a path name in a value of the shape of that number, where that
