@@ -8,7 +8,7 @@ use crate::there::ITEM;
 use asl_check::{FindingFault, Located};
 use asl_diagnostics::rule_of_finding;
 use asl_numbered::Shapes;
-use asl_phrases::{Lack, Stop, difference, stop_of};
+use asl_phrases::{Apart, Lack, Stop, difference, stop_of};
 use asl_state_edges::{Broken, Step};
 use asl_states::Kind;
 use asl_tree::{OutOfMemory, quoted};
@@ -104,19 +104,30 @@ impl<'m> Explainer<'m> {
     }
 
     /// How a payload may lack what its task takes.
-    pub(crate) fn lack_of_payload(
+    fn lack_of_payload(
         &self,
         shapes: &mut Shapes,
         cause: Option<&Cause>,
     ) -> Result<Option<Lack>, OutOfMemory> {
-        let Some(cause) = cause else {
-            return Ok(None);
-        };
+        match cause {
+            Some(cause) => Ok(
+                self.apart_of_payload(shapes, cause)?
+                    .map(|apart| apart.lack),
+            ),
+            None => Ok(None),
+        }
+    }
+
+    /// Where a payload may lack what its task takes.
+    pub(crate) fn apart_of_payload(
+        &self,
+        shapes: &mut Shapes,
+        cause: &Cause,
+    ) -> Result<Option<Apart>, OutOfMemory> {
         match (cause.step, self.machine.name(cause.state)) {
             (Step::Flows(edge), Some(name)) => {
                 let takes = self.taken_by(shapes, name)?;
-                let apart = difference(self.alloc, shapes, edge.flowing, takes, "the task")?;
-                Ok(Some(apart.lack))
+                Ok(Some(difference(self.alloc, shapes, edge.flowing, takes, "the task")?))
             }
             _ => Ok(None),
         }

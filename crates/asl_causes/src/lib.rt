@@ -22,7 +22,9 @@ mod results;
 mod sources;
 mod state_text;
 mod telling;
+mod tests_of_rules;
 mod there;
+mod unsure;
 mod walking;
 
 pub use known::{Known, finding_text_alone};

@@ -53,7 +53,7 @@ impl<'m> Explainer<'m> {
         self.push_there(shapes, text, cause)?;
         let others = self.push_origins(shapes, walks, text, located, cause)?;
         self.push_shown(shapes, text, located, cause)?;
-        self.push_idle_test(shapes, text, cause)?;
+        self.push_idle_test(shapes, &mut walks.tests, text, cause)?;
         Ok(others)
     }
 

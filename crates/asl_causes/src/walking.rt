@@ -5,6 +5,7 @@ ghost use Rattle.asl_state_edges.specs.Entry.{IsEntryBelow};
 ghost use Rattle.asl_numbered.specs.Expansion.{AreBelow};
 
 use crate::flows::Explainer;
+use crate::tests_of_rules::Tests;
 use asl_check::Located;
 use asl_numbered::Shapes;
 use asl_path::print;
@@ -13,12 +14,14 @@ use asl_state_edges::{Broken, Destination, Edge, Entry, Step, edges_of};
 use asl_tree::OutOfMemory;
 use std::alloc::Global;
 
-/// The walks through one state that were taken so far. The findings of a state stand behind each other.
+/// What is kept from finding to finding: the walks through one state that were taken so far, since the findings of a state stand
+/// behind each other, and the tests of choice rules.
 #[derive(Drop)]
 pub(crate) struct Walks<'m> {
     /// The number of the state.
     state: usize,
     walks: Vec<Walked<'m>>,
+    pub(crate) tests: Tests<'m>,
 }
 
 /// A walk through a state.
@@ -35,6 +38,7 @@ impl<'m> Walks<'m> {
         Walks {
             state: 0,
             walks: Vec::new(alloc),
+            tests: Tests::new(alloc),
         }
     }
 
