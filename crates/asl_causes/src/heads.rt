@@ -5,6 +5,7 @@ use asl_diagnostics::rule_of_finding;
 use asl_phrases::cut;
 use asl_tree::{OutOfMemory, quoted};
 use std::alloc::Global;
+use std::collections::BTreeSet;
 
 /// The state's name, the field, the fault, and what it says in a sentence.
 pub(crate) fn head_of(alloc: Global, located: &Located) -> Result<String, OutOfMemory> {
@@ -46,28 +47,28 @@ fn sentence_on_kind(alloc: Global, field: &str) -> Result<String, OutOfMemory> {
     Ok(String::from_str(alloc, words)?)
 }
 
-/// Whether the finding of that number is told in the same words as one in front of it. The findings of a state stand behind
-/// each other.
-pub(crate) fn is_repeated(findings: &[Located], number: usize) -> bool {
-    let (Some(located), Some(front)) = (findings.get(number), findings.get(..number)) else {
-        return false;
-    };
-    for other in front.iter().rev() {
-        if other.finding.state.as_str() != located.finding.state.as_str() {
-            return false;
-        }
-        if is_told_alike(other, located) {
-            return true;
-        }
-    }
-    false
+/// What was told of findings so far.
+#[derive(Drop)]
+pub(crate) struct Told {
+    texts: BTreeSet<String>,
 }
 
-/// Whether two findings of a state are told in the same words.
-fn is_told_alike(first: &Located, second: &Located) -> bool {
-    first.finding.fault.name() == second.finding.fault.name()
-        && first.finding.field.as_str() == second.finding.field.as_str()
-        && text_of(first) == text_of(second)
+impl Told {
+    /// Nothing was told.
+    pub(crate) fn new(alloc: Global) -> Told {
+        Told {
+            texts: BTreeSet::new(alloc),
+        }
+    }
+
+    /// Whether a finding is told in the same words as one before; it is told now.
+    pub(crate) fn has(&mut self, alloc: Global, located: &Located) -> Result<bool, OutOfMemory> {
+        let finding = &located.finding;
+        let (state, fault, field) = (finding.state.as_str(), finding.fault.name(), &finding.field);
+        let (length, path) = (state.len(), text_of(located));
+        let text = format!(in alloc; "{fault} {field} {length} {state} {path}")?;
+        Ok(!self.texts.insert(text)?)
+    }
 }
 
 /// The text of the path that a finding is about, empty where it is about none.

@@ -8,7 +8,7 @@ ghost use Rattle.asl_records.specs.View.{declared_view};
 ghost use Rattle.asl_causes.specs.Known.{broken_rules};
 
 use crate::flows::{Explainer, Flows};
-use crate::heads::is_repeated;
+use crate::heads::Told;
 use crate::telling::push_alone;
 use crate::walking::Walks;
 use asl_check::{Finding, Located, find_all};
@@ -99,8 +99,9 @@ fn text_of_findings(
     };
     let mut text = String::new(alloc);
     let mut walks = Walks::new(alloc);
-    for (number, located) in facts.findings.iter().enumerate() {
-        if is_repeated(&facts.findings, number) {
+    let mut told = Told::new(alloc);
+    for located in &facts.findings {
+        if told.has(alloc, located)? {
             continue;
         }
         if !text.is_empty() {

@@ -1,7 +1,7 @@
 //! What is known of one state, in lines.
 
 use crate::flows::Explainer;
-use crate::heads::{is_repeated, told_in_short};
+use crate::heads::{Told, told_in_short};
 use asl_check::Located;
 use asl_numbered::Shapes;
 use asl_phrases::{counted, noted, push_all};
@@ -223,8 +223,9 @@ impl Explainer<'_> {
         findings: &[Located],
         name: &str,
     ) -> Result<(), OutOfMemory> {
-        for (number, located) in findings.iter().enumerate() {
-            if located.finding.state.as_str() == name && !is_repeated(findings, number) {
+        let mut told = Told::new(self.alloc);
+        for located in findings {
+            if located.finding.state.as_str() == name && !told.has(self.alloc, located)? {
                 push_row(text, "finding", &told_in_short(self.alloc, located)?)?;
             }
         }

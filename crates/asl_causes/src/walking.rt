@@ -5,14 +5,15 @@ ghost use Rattle.asl_state_edges.specs.Entry.{IsEntryBelow};
 ghost use Rattle.asl_numbered.specs.Expansion.{AreBelow};
 
 use crate::flows::Explainer;
-use crate::tests_of_rules::Tests;
-use asl_check::Located;
+use crate::tests_of_rules::{Tests, sooner};
+use asl_check::{FindingFault, Located};
 use asl_numbered::Shapes;
 use asl_path::print;
 use asl_records::StateNumbers;
 use asl_state_edges::{Broken, Destination, Edge, Entry, Step, edges_of};
 use asl_tree::OutOfMemory;
 use std::alloc::Global;
+use std::collections::BTreeMap;
 
 /// What is kept from finding to finding: the walks through one state that were taken so far, since the findings of a state stand
 /// behind each other, and the tests of choice rules.
@@ -30,6 +31,10 @@ struct Walked<'m> {
     /// The number of the input.
     input: usize,
     steps: Vec<Step<'m>>,
+    /// The numbers of the steps at which a rule is first broken so, by what is told of it.
+    broken: BTreeMap<String, usize>,
+    /// The numbers of the steps with payloads.
+    payloads: Vec<usize>,
 }
 
 impl<'m> Walks<'m> {
@@ -50,21 +55,79 @@ impl<'m> Walks<'m> {
         }
     }
 
-    /// The steps with an input of that number, where it was taken.
-    fn steps_with(&self, input: usize) -> Option<&[Step<'m>]> {
-        for walked in &self.walks {
-            if walked.input == input {
-                return Some(&walked.steps);
+    /// The walk with an input of that number, where it was taken.
+    fn walk_with(&self, input: usize) -> Option<&Walked<'m>> {
+        self.walks.iter().find(|walked| walked.input == input)
+    }
+}
+
+/// A walk with an input of that number by those steps.
+fn walk_by<'m>(
+    alloc: Global,
+    input: usize,
+    steps: Vec<Step<'m>>,
+) -> Result<Walked<'m>, OutOfMemory> {
+    let (mut broken, mut payloads) = (BTreeMap::new(alloc), Vec::new(alloc));
+    for (number, step) in steps.iter().enumerate() {
+        match step {
+            Step::Breaks(rule) => note_broken(alloc, &mut broken, rule, number)?,
+            Step::Flows(edge) => {
+                if let Destination::Task = edge.destination {
+                    payloads.push(number)?;
+                }
             }
         }
-        None
     }
+    Ok(Walked {
+        input,
+        steps,
+        broken,
+        payloads,
+    })
+}
 
-    /// Keeps the steps with an input of that number.
-    fn keep(&mut self, input: usize, steps: Vec<Step<'m>>) -> Result<(), OutOfMemory> {
-        self.walks.push(Walked { input, steps })?;
-        Ok(())
+/// Notes the number of a step by what is told of the rule that is broken there, with its path and without it.
+fn note_broken(
+    alloc: Global,
+    numbers: &mut BTreeMap<String, usize>,
+    broken: &Broken,
+    number: usize,
+) -> Result<(), OutOfMemory> {
+    if let Some(path) = &broken.path {
+        let text = print(alloc, path.path)?;
+        let told = told_at(alloc, broken.fault, broken.field, broken.name, &text)?;
+        note_first(numbers, told, number)?;
     }
+    note_first(numbers, told_of(alloc, broken.fault, broken.field)?, number)
+}
+
+/// Notes the number for a text, where none is noted for it.
+fn note_first(
+    numbers: &mut BTreeMap<String, usize>,
+    text: String,
+    number: usize,
+) -> Result<(), OutOfMemory> {
+    if numbers.get(text.as_str()).is_none() {
+        drop(numbers.insert(text, number)?);
+    }
+    Ok(())
+}
+
+/// What is told of a broken rule without its path.
+fn told_of(alloc: Global, fault: FindingFault, field: &str) -> Result<String, OutOfMemory> {
+    Ok(format!(in alloc; "{} {field}", fault.name())?)
+}
+
+/// What is told of a broken rule with its path: no two broken rules have the same text that differ in something.
+fn told_at(
+    alloc: Global,
+    fault: FindingFault,
+    field: &str,
+    name: &str,
+    path: &str,
+) -> Result<String, OutOfMemory> {
+    let (fault, length) = (fault.name(), name.len());
+    Ok(format!(in alloc; "{fault} {field} {length} {name} {path}")?)
 }
 
 impl<'m> Explainer<'m> {
@@ -101,58 +164,55 @@ impl<'m> Explainer<'m> {
         input: usize,
     ) -> Result<Option<Step<'m>>, OutOfMemory> {
         walks.turn_to(state);
-        if walks.steps_with(input).is_none() {
+        if walks.walk_with(input).is_none() {
             let steps = self.steps(shapes, state, input)?;
-            walks.keep(input, steps)?;
+            walks.walks.push(walk_by(self.alloc, input, steps)?)?;
         }
-        match walks.steps_with(input) {
-            Some(steps) => self.broken_in(shapes, located, steps),
+        match walks.walk_with(input) {
+            Some(walked) => self.broken_in(shapes, located, walked),
             None => Ok(None),
         }
     }
 
-    /// The first of the steps at which the rule of a finding is broken, if there is one.
+    /// The first step of a walk at which the rule of a finding is broken, if there is one: of the same fault, at the same field,
+    /// by the same path.
     fn broken_in(
         &self,
         shapes: &mut Shapes,
         located: &Located,
-        steps: &[Step<'m>],
+        walked: &Walked<'m>,
     ) -> Result<Option<Step<'m>>, OutOfMemory> {
-        for step in steps {
-            if self.breaks(shapes, located, step)? {
-                return Ok(Some(*step));
-            }
-        }
-        Ok(None)
+        let text = self.told_of_finding(located)?;
+        let broken = walked.broken.get(text.as_str()).copied();
+        let payload = self.payload_in(shapes, located, walked)?;
+        Ok(sooner(broken, payload).and_then(|number| walked.steps.get(number).copied()))
     }
 
-    /// Whether the rule of a finding is broken at the step.
-    fn breaks(
+    /// What is told of the broken rule of a finding, as [`note_broken`] notes it.
+    fn told_of_finding(&self, located: &Located) -> Result<String, OutOfMemory> {
+        let finding = &located.finding;
+        let field = finding.field.as_str();
+        match &located.path {
+            Some(path) => told_at(self.alloc, finding.fault, field, &path.name, &path.text),
+            None => told_of(self.alloc, finding.fault, field),
+        }
+    }
+
+    /// The number of the first step of a walk with a payload that the finding is about, if there is one.
+    fn payload_in(
         &self,
         shapes: &mut Shapes,
         located: &Located,
-        step: &Step,
-    ) -> Result<bool, OutOfMemory> {
-        match step {
-            Step::Breaks(broken) => self.is_told_by(located, broken),
-            Step::Flows(edge) => self.overflows(shapes, located, edge),
-        }
-    }
-
-    /// Whether that broken rule is the one of the finding: of the same fault, at the same field, by the same path.
-    fn is_told_by(&self, located: &Located, broken: &Broken) -> Result<bool, OutOfMemory> {
-        let finding = &located.finding;
-        if finding.fault.name() != broken.fault.name() || finding.field.as_str() != broken.field {
-            return Ok(false);
-        }
-        match (&located.path, &broken.path) {
-            (Some(told), Some(path)) if told.name.as_str() == broken.name => {
-                let text = print(self.alloc, path.path)?;
-                Ok(text.as_str() == told.text.as_str())
+        walked: &Walked<'m>,
+    ) -> Result<Option<usize>, OutOfMemory> {
+        for number in &walked.payloads {
+            if let Some(Step::Flows(edge)) = walked.steps.get(*number) {
+                if self.overflows(shapes, located, edge)? {
+                    return Ok(Some(*number));
+                }
             }
-            (Some(_), _) => Ok(false),
-            (None, _) => Ok(true),
         }
+        Ok(None)
     }
 
     /// Whether a payload flows along the edge that isn't within what the task of the finding takes.
