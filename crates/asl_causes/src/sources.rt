@@ -61,7 +61,7 @@ impl<'m> Explainer<'m> {
         }
         let many = path.segment.saturating_add(1);
         let pieces = pieces_of(self.alloc, path.path, many)?;
-        Ok(Some(traced(state, field, &pieces)))
+        Ok(Some(trace(state, field, &pieces)))
     }
 }
 
@@ -105,7 +105,7 @@ fn pieces_of(alloc: Global, path: &RefPath, many: usize) -> Result<Vec<Piece>, O
 }
 
 /// Where the place comes from that a path of that field goes to by those pieces.
-fn traced<'m>(state: &'m State, field: &str, pieces: &[Piece]) -> Traced<'m> {
+fn trace<'m>(state: &'m State, field: &str, pieces: &[Piece]) -> Traced<'m> {
     match field {
         "InputPath" => in_input(),
         "Parameters" => in_taken(&state.settings, None, 0),
@@ -155,7 +155,7 @@ pub(crate) fn in_effective<'m>(
     dropped: usize,
 ) -> Traced<'m> {
     match &settings.parameters {
-        Some(template) => match filling(template, pieces, dropped) {
+        Some(template) => match filled_by(template, pieces, dropped) {
             Filling::Named(path, dropped) => in_taken(settings, Some(path), dropped),
             Filling::Own => in_made("Parameters", dropped),
         },
@@ -177,7 +177,7 @@ fn in_output<'m>(state: &'m State, pieces: &[Piece]) -> Traced<'m> {
 /// The place in what ResultSelector makes of the result, or in the result where there is none.
 fn in_result<'m>(state: &'m State, pieces: &[Piece], dropped: usize) -> Traced<'m> {
     match &state.settings.result_selector {
-        Some(template) => match filling(template, pieces, dropped) {
+        Some(template) => match filled_by(template, pieces, dropped) {
             Filling::Named(path, dropped) => in_work(state, Some(path), pieces, dropped),
             Filling::Own => in_made("ResultSelector", dropped),
         },
@@ -231,7 +231,7 @@ fn is_piece(segment: &Segment, piece: &Piece) -> bool {
 }
 
 /// What a template has at the place to which the pieces go behind the first `dropped`.
-fn filling<'t>(template: &'t Template, pieces: &[Piece], dropped: usize) -> Filling<'t> {
+fn filled_by<'t>(template: &'t Template, pieces: &[Piece], dropped: usize) -> Filling<'t> {
     let mut part = template;
     let mut place = dropped;
     for piece in pieces.iter().skip(dropped) {
