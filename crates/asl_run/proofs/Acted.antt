@@ -9,8 +9,8 @@ use Rattle.asl_run.specs.Acting.{Acts, DoesNothing, IsAt, IsFoundIn, IsVisitOf, 
 use Rattle.asl_run.specs.Changing.{visit_in}
 use Rattle.asl_run.specs.Nodes.{AreHeads, shown_over}
 use Rattle.asl_run.specs.Standing.{children_of, name_in}
-use Rattle.asl_run.specs.Troubles.{CanRise}
-use Rattle.asl_run.specs.declared.activities.Visit.{Visit}
+use Rattle.asl_processing.specs.Troubles.{CanRise}
+use Rattle.asl_processing.specs.declared.activities.Visit.{Visit}
 use Rattle.asl_run.specs.declared.nodes.Node.{Node}
 use Rattle.asl_run.specs.declared.planning.Here.{Here}
 use Rattle.asl_run.specs.declared.planning.Plan.{Plan}

@@ -8,7 +8,7 @@ use Rattle.asl_run.specs.Enabling.{found_view, Adds, AddsOwn, AddsPlaces, AddsPl
 use Rattle.asl_run.specs.Entries.{want_view}
 use Rattle.asl_run.specs.Nodes.{AreHeads, IsTable, in_table, range_of, shown_at, shown_from, shown_over}
 use Rattle.asl_run.specs.Standing.{children_of}
-use Rattle.asl_run.specs.declared.activities.Visit.{Visit}
+use Rattle.asl_processing.specs.declared.activities.Visit.{Visit}
 use Rattle.asl_run.specs.declared.entries.Outcome.TheVariants as outcomes
 use Rattle.asl_run.specs.declared.entries.Want as code
 use Rattle.asl_run.specs.declared.nodes.Children.{Children}

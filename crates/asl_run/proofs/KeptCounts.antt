@@ -3,13 +3,13 @@ use Rattle.std.proofs.Common.{◌≡◌, ◌≤◌, refl, sym, ap, ◌∙◌, ar
 use Rattle.asl_model.specs.Run.{Activity, Activities, NoActivities, AndActivity, Split, Joining, AllDone, OneFailed, StillRunning, joining, child_at, set_child}
 use Rattle.asl_model.proofs.RunOptions.{some_inj, none_some}
 use Rattle.asl_tree.specs.View.{view}
-use Rattle.asl_run.specs.Activities.{ready_view}
+use Rattle.asl_processing.specs.Activities.{ready_view}
 use Rattle.asl_run.specs.Changing.{changed, children_in}
 use Rattle.asl_run.specs.Counting.{IsFar, open_among, open_count, own_count_of, own_count_so}
 use Rattle.asl_run.specs.Enabling.{has_ended, is_joinable}
 use Rattle.asl_run.specs.Nodes.{IsTable, child_number, in_table, number_from, shown_at, shown_from}
 use Rattle.asl_run.specs.Standing.{children_of, name_in}
-use Rattle.asl_run.specs.declared.activities.Visit.{Visit}
+use Rattle.asl_processing.specs.declared.activities.Visit.{Visit}
 use Rattle.asl_run.specs.declared.changing.Change.{Change}
 use Rattle.asl_run.specs.declared.changing.Change.TheVariants.{Enter, End, Ask, SplitInto, Retry}
 use Rattle.asl_run.specs.declared.entries.Outcome.TheVariants as outcomes

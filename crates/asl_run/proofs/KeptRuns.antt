@@ -8,7 +8,7 @@ use Rattle.asl_run.specs.Counting.{CanPass, HasParent, IsBegun, IsFar, IsKept, I
 use Rattle.asl_run.specs.Enabling.{has_ended}
 use Rattle.asl_run.specs.Nodes.{IsRange, IsTable, child_number, in_table, number_from, range_of, shown_at, shown_from}
 use Rattle.asl_run.specs.Standing.{children_of}
-use Rattle.asl_run.specs.declared.activities.Visit.{Visit}
+use Rattle.asl_processing.specs.declared.activities.Visit.{Visit}
 use Rattle.asl_run.specs.declared.changing.Change.{Change}
 use Rattle.asl_run.specs.declared.entries.Outcome.TheVariants as outcomes
 use Rattle.asl_run.specs.declared.nodes.Children.{Children}

@@ -8,7 +8,7 @@ use Rattle.asl_run.specs.Counting.{IsOpenAt, is_joinable_so, open_count}
 use Rattle.asl_run.specs.Enabling.{has_ended, open_below, open_in, own_place, wanted_by_join}
 use Rattle.asl_run.specs.Nodes.{IsTable, in_table, shown_at, shown_from}
 use Rattle.asl_run.specs.Standing.{children_of}
-use Rattle.asl_run.specs.declared.activities.Visit.{Visit}
+use Rattle.asl_processing.specs.declared.activities.Visit.{Visit}
 use Rattle.asl_run.specs.declared.nodes.Children.{Children}
 use Rattle.asl_run.specs.declared.nodes.Node.{Node}
 use Rattle.asl_run.specs.declared.nodes.Node.TheVariants.{Split}

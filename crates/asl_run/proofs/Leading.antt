@@ -14,7 +14,7 @@ use Rattle.asl_model.specs.Machine.{Scope, Scopes, NoScopes, AndScope, Catcher, 
 use Rattle.asl_model.specs.Numbering.{outline, scopes_outline, targets_by, targets_of, table_of, IsScopeOf, scope_of_child, HasNamed, IsWellNamed}
 use Rattle.asl_model.specs.Test.{Rule}
 use Rattle.asl_model.proofs.NumberedRows.{LeadsToRow, leads_to_row, ShowsState, shows_state}
-use Rattle.asl_run.specs.Leading.{Leads, LeadsOn}
+use Rattle.asl_processing.specs.Leading.{Leads, LeadsOn}
 use Rattle.asl_run.specs.Standing.{no_name, name_in}
 use Rattle.asl_run.proofs.Numbers.{stands_at}
 

@@ -1,15 +1,11 @@
-pub mod Counts
 pub mod Driven
 pub mod FewEntries
 pub mod GoingOn
-pub mod Inputs
 pub mod Leading
-pub mod Misfits
 pub mod Numbers
 pub mod OpenPlaces
 pub mod Planned
 pub mod Stopping
-pub mod Told
 pub mod Turns
 pub mod Visits
 pub mod Waits
@@ -17,7 +13,6 @@ pub mod Adding
 pub mod Heads
 pub mod Joinable
 pub mod Started
-pub mod Children
 pub mod Joined
 pub mod Acted
 pub mod StepsBelow

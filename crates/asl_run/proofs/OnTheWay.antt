@@ -6,7 +6,7 @@ use Rattle.asl_run.specs.Counting.{IsFar, IsGoing, IsKept, open_count}
 use Rattle.asl_run.specs.Enabling.{has_ended, is_joinable, open_below, open_in, own_place, wanted_by_join}
 use Rattle.asl_run.specs.Nodes.{IsTable, shown_at}
 use Rattle.asl_run.specs.Standing.{children_of}
-use Rattle.asl_run.specs.declared.activities.Visit.{Visit}
+use Rattle.asl_processing.specs.declared.activities.Visit.{Visit}
 use Rattle.asl_run.specs.declared.entries.Outcome.TheVariants as outcomes
 use Rattle.asl_run.specs.declared.nodes.Children.{Children}
 use Rattle.asl_run.specs.declared.nodes.Node.{Node}

@@ -6,7 +6,7 @@ use Rattle.asl_model.specs.Run.{outcome_of}
 use Rattle.asl_run.specs.Entries.{outcome_view}
 use Rattle.asl_run.specs.Nodes.{IsTable, in_table, range_of, shown_at, shown_from, shown_over}
 use Rattle.asl_run.specs.Standing.{children_of}
-use Rattle.asl_run.specs.declared.activities.Visit.{Visit}
+use Rattle.asl_processing.specs.declared.activities.Visit.{Visit}
 use Rattle.asl_run.specs.declared.entries.Outcome.{Outcome}
 use Rattle.asl_run.specs.declared.entries.Outcome.TheVariants as outcomes
 use Rattle.asl_run.specs.declared.nodes.Children.{Children}

@@ -13,28 +13,27 @@ use Rattle.asl_model.specs.Tree.{Tree}
 use Rattle.asl_tree.specs.View.{view}
 use Rattle.asl_tree.specs.declared.Tree as code
 use Rattle.asl_run.specs.Acting.{IsAt, MayCome, MayFollow, Plans, by_settings, by_state, by_trouble_at, names_at, state_at, told_at}
-use Rattle.asl_run.specs.Activities.{Begins, StartIn, ended_view, inputs_of, ready_children}
+use Rattle.asl_processing.specs.Activities.{Begins, StartIn, inputs_of, ready_children}
+use Rattle.asl_run.specs.Entries.{ended_view, entry_view}
 use Rattle.asl_run.specs.Changing.{changed}
-use Rattle.asl_run.specs.Data.{datum_view}
-use Rattle.asl_run.specs.Entries.{entry_view}
-use Rattle.asl_run.specs.Faults.{error_view, fault_view}
-use Rattle.asl_run.specs.Flowing.{Flows}
-use Rattle.asl_run.specs.Leading.{Leads}
-use Rattle.asl_run.specs.Troubles.{CanRise, trouble_view}
-use Rattle.asl_run.specs.declared.activities.Visit.{Visit}
+use Rattle.asl_processing.specs.Data.{datum_view}
+use Rattle.asl_processing.specs.Faults.{error_view, fault_view}
+use Rattle.asl_processing.specs.Flowing.{Flows}
+use Rattle.asl_processing.specs.Leading.{Leads}
+use Rattle.asl_processing.specs.Troubles.{CanRise, trouble_view}
+use Rattle.asl_processing.specs.declared.activities.Visit.{Visit}
 use Rattle.asl_run.specs.declared.changing.Change.{Change}
 use Rattle.asl_run.specs.declared.changing.Change.TheVariants.{Ask, End, Enter, Retry, SplitInto}
 use Rattle.asl_run.specs.declared.entries.Entry.{Entry}
 use Rattle.asl_run.specs.declared.entries.Outcome.{Outcome}
 use Rattle.asl_run.specs.declared.entries.Outcome.TheVariants as outcomes
-use Rattle.asl_run.specs.declared.faults.Fault.{Fault}
-use Rattle.asl_run.specs.declared.faults.Stop.{Stop}
-use Rattle.asl_run.specs.declared.faults.Stop.TheVariants as stops
+use Rattle.asl_processing.specs.declared.faults.Fault.{Fault}
+use Rattle.asl_processing.specs.declared.faults.Stop.{Stop}
+use Rattle.asl_processing.specs.declared.faults.Stop.TheVariants as stops
 use Rattle.asl_run.specs.declared.planning.Here.{Here}
 use Rattle.asl_run.specs.declared.planning.Plan.{Plan}
-use Rattle.asl_run.specs.declared.troubles.Trouble.{Trouble}
-use Rattle.asl_run.specs.declared.working.Work.TheVariants as works
-use Rattle.asl_run.proofs.Children.{ready_at}
+use Rattle.asl_processing.specs.declared.troubles.Trouble.{Trouble}
+use Rattle.asl_processing.specs.declared.working.Work.TheVariants as works
 
 -- a change leaves that, and a count that is to rise can
 pub record Leaves (here : Here) (change : Change) (after : model.Activity) : Type 0 where
@@ -71,7 +70,7 @@ told_once here plan before made entry change after none is first same told leave
 -- the execution goes on at a target that may follow
 pub moves_on : (here : Here) (visit : Visit) (next : Target) (input : Rc code.Tree Global) → Begins next.number visit → visit.raw ≡ input → MayFollow here next → Leaves here (Enter visit) (model.Ready (target_name next) (view input.value) [])
 moves_on here visit next input begins given follows = becomes here visit (model.Ready (target_name next) (view input.value) [])
-    (λ stands. ready_at (names_at here) next visit (follows.leads stands) begins ∙ ap (λ (r : Rc code.Tree Global). model.Ready (target_name next) (view r.value) []) given)
+    (λ stands. rw (begins.state, begins.uncounted, given, (follows.leads stands).named) refl)
 
 -- what `Next` names may follow
 pub next_follows : (here : Here) (next : Option (Bor Target)) → option_map (λ (t : Bor Target). t.now) next ≡ here.state.now.settings.next → IfSome next (λ t. MayFollow here t.now)

@@ -10,7 +10,7 @@ use Rattle.asl_model.proofs.RunOptions.{some_inj, none_some}
 use Rattle.asl_run.specs.Enabling.{Adds, AddsPlaces, open_in}
 use Rattle.asl_run.specs.Standing.{name_in, no_name, StandsIn}
 use Rattle.asl_run.specs.Nodes.{shown_at}
-use Rattle.asl_run.specs.declared.activities.Visit.{Visit}
+use Rattle.asl_processing.specs.declared.activities.Visit.{Visit}
 use Rattle.asl_run.specs.declared.nodes.Node.{Node}
 use Rattle.asl_run.specs.declared.nodes.Node.TheVariants.{Ready}
 use Rattle.asl_tree.specs.View.{view}

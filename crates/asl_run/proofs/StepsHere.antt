@@ -15,11 +15,11 @@ use Rattle.asl_run.specs.Acting.{Acts, ActsSo, StandsAt, action_of, moves}
 use Rattle.asl_run.specs.Changing.{changed, visit_in}
 use Rattle.asl_run.specs.Enabling.{wanted_by}
 use Rattle.asl_run.specs.Entries.{answer_view, entry_view}
-use Rattle.asl_run.specs.Leading.{LeadsOn}
+use Rattle.asl_processing.specs.Leading.{LeadsOn}
 use Rattle.asl_run.specs.Standing.{StandsIn, name_in}
 use Rattle.asl_run.specs.Nodes.{shown_over}
 use Rattle.asl_run.specs.Stepping.{RefusesThere, Steps}
-use Rattle.asl_run.specs.declared.activities.Visit.{Visit}
+use Rattle.asl_processing.specs.declared.activities.Visit.{Visit}
 use Rattle.asl_run.specs.declared.entries.Answer.{Answer}
 use Rattle.asl_run.specs.declared.entries.Answer.TheVariants as answers
 use Rattle.asl_run.specs.declared.entries.Outcome.TheVariants as outcomes

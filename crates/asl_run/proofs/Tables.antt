@@ -8,7 +8,7 @@ use Rattle.asl_model.specs.Tree.{Null}
 use Rattle.asl_model.proofs.RunOptions.{some_inj, none_some}
 use Rattle.asl_run.specs.Standing.{children_of}
 use Rattle.asl_run.specs.Nodes.{AreHeads, IsTable, child_number, in_range, in_table, number_from, number_in_range, range_of, shown_at, shown_from, shown_over}
-use Rattle.asl_run.specs.declared.activities.Visit.{Visit}
+use Rattle.asl_processing.specs.declared.activities.Visit.{Visit}
 use Rattle.asl_run.specs.declared.entries.Outcome.{Outcome}
 use Rattle.asl_run.specs.declared.entries.Outcome.TheVariants as outcomes
 use Rattle.asl_run.specs.declared.nodes.Children.{Children}

@@ -1,8 +1,8 @@
 -- The execution of a state whose count is raised.
 use Rattle.std.proofs.Common.{◌≡◌, ℕ, sym, ◌∙◌, subst, Option, Some, Result, Ok, Err, IfOk}
 use Rattle.asl_model.proofs.RunOptions.{some_inj}
-use Rattle.asl_run.specs.Changing.{IsRaised}
-use Rattle.asl_run.specs.declared.activities.Visit.{Visit}
+use Rattle.asl_processing.specs.Activities.{IsRaised}
+use Rattle.asl_processing.specs.declared.activities.Visit.{Visit}
 
 -- where it stands
 pub raised_there : {A E : Type 0} (r : Result A E) (retrier : ℕ) (visit after : Visit) (before now : Option Visit) → before ≡ Some visit → now ≡ Some after → IfOk r (λ _. IsRaised retrier visit after)

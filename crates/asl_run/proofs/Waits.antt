@@ -13,7 +13,7 @@ use Rattle.asl_run.proofs.Tables.{place_shown, shown_here}
 use Rattle.asl_run.specs.Nodes.{IsTable, in_table, number_from, range_of, shown_at, shown_from, shown_over}
 use Rattle.asl_run.specs.Standing.{StandsIn, children_of, name_in, no_name}
 use Rattle.asl_run.specs.Waiting.{WaitsAt, NoneWaitsAt}
-use Rattle.asl_run.specs.declared.activities.Visit.{Visit}
+use Rattle.asl_processing.specs.declared.activities.Visit.{Visit}
 use Rattle.asl_run.specs.declared.entries.Outcome.{Outcome}
 use Rattle.asl_run.specs.declared.entries.Outcome.TheVariants as outcomes
 use Rattle.asl_run.specs.declared.nodes.Children.{Children}

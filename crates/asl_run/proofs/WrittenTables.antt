@@ -6,11 +6,11 @@ use Rattle.std.proofs.lemmas.Option.{slice_get_within}
 use Rattle.std.specs.declared.rc.Rc.{Rc}
 use Rattle.asl_model.specs.Run as model
 use Rattle.asl_model.proofs.RunOptions.{some_inj, none_some}
-use Rattle.asl_run.specs.Activities.{ready_view}
-use Rattle.asl_run.specs.Changing.{AreAlike, IsAlike, IsApplied, IsRaised, IsWritten, changed, children_in, node_ended, visit_in}
+use Rattle.asl_processing.specs.Activities.{ready_view, IsRaised}
+use Rattle.asl_run.specs.Changing.{AreAlike, IsAlike, IsApplied, IsWritten, changed, children_in, node_ended, visit_in}
 use Rattle.asl_run.specs.Nodes.{IsRange, IsTable, in_range, in_table, range_of, shown_at, shown_from, shown_over}
 use Rattle.asl_run.specs.Standing.{children_of, name_in}
-use Rattle.asl_run.specs.declared.activities.Visit.{Visit}
+use Rattle.asl_processing.specs.declared.activities.Visit.{Visit}
 use Rattle.asl_run.specs.declared.changing.Change.{Change}
 use Rattle.asl_run.specs.declared.changing.Change.TheVariants.{Enter, End, Ask, SplitInto, Retry}
 use Rattle.asl_run.specs.declared.entries.Outcome.{Outcome}

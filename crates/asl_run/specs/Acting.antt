@@ -13,18 +13,18 @@ use Rattle.asl_model.specs.Tree.{Tree}
 use Rattle.asl_tree.specs.View.{view}
 use Rattle.asl_run.specs.Changing.{CanApply, changed, visit_in}
 use Rattle.asl_run.specs.Entries.{answer_view, entry_view}
-use Rattle.asl_run.specs.Leading.{Leads, LeadsOn}
+use Rattle.asl_processing.specs.Leading.{Leads, LeadsOn}
 use Rattle.asl_run.specs.Nodes.{shown_over}
 use Rattle.asl_run.specs.Standing.{name_in}
-use Rattle.asl_run.specs.Troubles.{CanRise}
-use Rattle.asl_run.specs.Working.{WorkLeads}
-use Rattle.asl_run.specs.declared.activities.Visit.{Visit}
+use Rattle.asl_processing.specs.Troubles.{CanRise}
+use Rattle.asl_processing.specs.Working.{WorkLeads}
+use Rattle.asl_processing.specs.declared.activities.Visit.{Visit}
 use Rattle.asl_run.specs.declared.changing.Change.TheVariants.{Retry}
 use Rattle.asl_run.specs.declared.entries.Answer.{Answer}
 use Rattle.asl_run.specs.declared.nodes.Node.{Node}
 use Rattle.asl_run.specs.declared.planning.Here.{Here}
 use Rattle.asl_run.specs.declared.planning.Plan.{Plan}
-use Rattle.asl_run.specs.declared.working.Work.{Work}
+use Rattle.asl_processing.specs.declared.working.Work.{Work}
 
 -- ---- what happens at a place
 

@@ -3,12 +3,13 @@ use Rattle.std.specs.Prelude.{◌≡◌, ◌<◌, ◌≤◌, ◌+◌, ℕ, Bool,
 use Rattle.std.specs.Prelude.{slice_get, slice_set}
 use Rattle.asl_model.specs.Run as model
 use Rattle.asl_tree.specs.View as trees
-use Rattle.asl_run.specs.Activities.{ended_view, ready_view, ready_children}
+use Rattle.asl_processing.specs.Activities.{ready_view, ready_children}
+use Rattle.asl_run.specs.Entries.{ended_view}
 use Rattle.asl_run.specs.Nodes.{IsTable, range_of, shown_at, shown_from, shown_over}
 use Rattle.asl_run.specs.Enabling.{has_ended}
 use Rattle.asl_run.specs.Standing.{name_in, children_of}
-use Rattle.asl_run.specs.Troubles.{CanRise}
-use Rattle.asl_run.specs.declared.activities.Visit.{Visit}
+use Rattle.asl_processing.specs.Troubles.{CanRise}
+use Rattle.asl_processing.specs.declared.activities.Visit.{Visit}
 use Rattle.asl_run.specs.declared.changing.Change.{Change}
 use Rattle.asl_run.specs.declared.changing.Change.TheVariants.{Enter, End, Ask, SplitInto, Retry}
 use Rattle.asl_run.specs.declared.nodes.Children.{Children}
@@ -32,18 +33,6 @@ visit_in (Ready visit) = Some visit
 visit_in (Waiting visit payload) = Some visit
 visit_in (Split visit children) = Some visit
 visit_in (Ended outcome) = None
-
--- the same execution, the count of that retrier one higher
-pub record IsRaised (retrier : ℕ) (before after : Visit) : Type 0 where
-  pub state : after.state ≡ before.state
-  pub raw : after.raw ≡ before.raw
-  pub counts : after.counts.items ≡ model.one_higher retrier before.counts.items
-
--- the same execution
-pub record IsSame (before after : Visit) : Type 0 where
-  pub state : after.state ≡ before.state
-  pub raw : after.raw ≡ before.raw
-  pub counts : after.counts.items ≡ before.counts.items
 
 -- so many children a change adds
 abbrev pub children_in : Change → ℕ

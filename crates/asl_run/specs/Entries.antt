@@ -2,7 +2,7 @@
 use Rattle.std.specs.Prelude.{ℕ, List, string_bytes}
 use Rattle.asl_model.specs.Run as model
 use Rattle.asl_tree.specs.View as trees
-use Rattle.asl_run.specs.Faults.{fault_view}
+use Rattle.asl_processing.specs.Faults.{fault_view}
 use Rattle.asl_run.specs.declared.entries.Answer.{Answer}
 use Rattle.asl_run.specs.declared.entries.Answer.TheVariants as answers
 use Rattle.asl_run.specs.declared.entries.Event.{Event}
@@ -33,6 +33,11 @@ want_view wants.Answer = model.WantsAnswer
 abbrev pub outcome_view : Outcome → model.Outcome
 outcome_view (outcomes.Output t) = model.Output (trees.view t.value)
 outcome_view (outcomes.Failed error cause) = model.FailedWith (string_bytes error) (string_bytes cause)
+
+-- a scope that has ended so
+abbrev pub ended_view : Outcome → model.Activity
+ended_view (outcomes.Output t) = model.Done (trees.view t.value)
+ended_view (outcomes.Failed error cause) = model.Failed (string_bytes error) (string_bytes cause)
 
 -- an entry, with its place
 abbrev pub entry_view : Entry → List ℕ × model.Entry

@@ -1,15 +1,9 @@
 pub mod Entries
 pub mod Faults
-pub mod Troubles
-pub mod Data
-pub mod Flowing
-pub mod Working
 pub mod Driving
 pub mod Enabling
 pub mod Counting
 pub mod Answering
-pub mod Activities
-pub mod Leading
 pub mod Standing
 pub mod Nodes
 pub mod Changing

@@ -5,10 +5,11 @@ use Rattle.std.specs.Option.{unwrap_or}
 use Rattle.asl_model.specs.Run as model
 use Rattle.asl_model.specs.Tree.{Null}
 use Rattle.asl_tree.specs.View as trees
-use Rattle.asl_run.specs.Activities.{ended_view, ready_view}
+use Rattle.asl_processing.specs.Activities.{ready_view}
+use Rattle.asl_run.specs.Entries.{ended_view}
 use Rattle.asl_run.specs.Standing.{name_in, children_of}
 use Rattle.asl_tree.specs.declared.Tree.{Tree}
-use Rattle.asl_run.specs.declared.activities.Visit.{Visit}
+use Rattle.asl_processing.specs.declared.activities.Visit.{Visit}
 use Rattle.asl_run.specs.declared.nodes.Children.{Children}
 use Rattle.asl_run.specs.declared.nodes.Node.{Node}
 use Rattle.asl_run.specs.declared.nodes.Node.TheVariants.{Ready, Waiting, Split, Ended}

@@ -7,8 +7,6 @@ ghost use Rattle.asl_run.specs.Acting.{action_of, by_settings, moves_at, names_a
 ghost use Rattle.asl_run.specs.Nodes.{AreHeads};
 ghost use Rattle.asl_run.specs.Standing.{children_of};
 
-use crate::activities::Visit;
-use crate::data::Data;
 use crate::entering::enter;
 use crate::entries::Answer;
 use crate::failing::in_trouble;
@@ -17,6 +15,7 @@ use crate::leaving::finish;
 use crate::nodes::Node;
 use crate::planning::{Here, Plan};
 use asl_machine_table::Machine;
+use asl_processing::{Data, Visit};
 use asl_tree::OutOfMemory;
 use std::alloc::Global;
 

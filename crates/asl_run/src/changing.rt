@@ -1,17 +1,17 @@
 //! What a step does to what stands at its place.
 
 ghost use Rattle.std.specs.Prelude.{◌≡◌, ℕ, None, Some, IfOk, IfErr};
-ghost use Rattle.asl_run.specs.Changing.{children_in, IsAlike, IsRaised, IsSame, visit_in};
+ghost use Rattle.asl_run.specs.Changing.{children_in, IsAlike, visit_in};
+ghost use Rattle.asl_processing.specs.Activities.{IsRaised};
 ghost use Rattle.asl_run.specs.Nodes.{range_of};
-ghost use Rattle.asl_run.specs.Troubles.{CanRise};
-ghost use Rattle.asl_run.specs.declared.activities.Visit.{Visit};
+ghost use Rattle.asl_processing.specs.Troubles.{CanRise};
+ghost use Rattle.asl_processing.specs.declared.activities.Visit.{Visit};
 ghost use Rattle.asl_run.specs.declared.nodes.Children as nodes;
 ghost use Rattle.asl_run.specs.declared.nodes.Node.TheVariants as variants;
 
-use crate::activities::Visit;
-use crate::entries::{Datum, Outcome};
+use crate::entries::Outcome;
 use crate::nodes::{Children, Node};
-use crate::troubles::one_higher;
+use asl_processing::{Datum, Visit};
 use asl_tree::OutOfMemory;
 use std::alloc::Global;
 use std::mem;
@@ -116,16 +116,5 @@ impl Node {
             Node::Split { visit, children: _ } => visit.raise(retrier),
             Node::Ended(_) => Ok(()),
         }
-    }
-}
-
-impl Visit {
-    /// Raises the count of the retrier of that number by one. A refusal leaves the visit as it is.
-    fn raise(&mut self, retrier: usize) -> Result<(), OutOfMemory>
-        requires { CanRise self.old.counts.items retrier }
-        ensures raised { IfOk result (λ _. IsRaised retrier self.old self.new) }
-        ensures unchanged { IfErr result (λ _. IsSame self.old self.new) }
-    {
-        one_higher(&mut self.counts, retrier)
     }
 }

@@ -6,20 +6,16 @@ ghost use Rattle.asl_model.specs.Flow as flow;
 ghost use Rattle.asl_model.specs.Machine as machine;
 ghost use Rattle.asl_model.specs.Run as model;
 ghost use Rattle.asl_run.specs.Acting.{IsAt, MayCome, Plans, by_state, names_at};
-ghost use Rattle.asl_run.specs.Activities.{StartIn, inputs_of};
-ghost use Rattle.asl_run.specs.Data.{data_view};
-ghost use Rattle.asl_run.specs.Working.{work_view};
+ghost use Rattle.asl_processing.specs.Activities.{StartIn, inputs_of};
+ghost use Rattle.asl_processing.specs.Data.{data_view};
+ghost use Rattle.asl_processing.specs.Working.{work_view};
 ghost use Rattle.asl_tree.specs.View.{view};
 
-use crate::activities::Visit;
 use crate::changing::Change;
-use crate::data::Data;
-use crate::entries::Datum;
 use crate::failing::raise;
-use crate::flowing::at_output_path;
 use crate::leaving::{finish, leave_with};
 use crate::planning::{Here, Plan};
-use crate::working::{Work, first_move};
+use asl_processing::{Data, Datum, Visit, Work, at_output_path, first_move};
 use asl_tree::OutOfMemory;
 
 /// The state is entered.

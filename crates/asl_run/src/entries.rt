@@ -1,16 +1,10 @@
 //! What happens in a run: events at places, and the entries of its history.
 
-use crate::faults::Fault;
-use asl_tree::Tree;
-use std::rc::Rc;
+use asl_processing::{Datum, Fault};
 
 /// Where an activity stands: the numbers of the children on the way down from the machine's own activity, whose
 /// place is empty.
 pub type Place = Vec<usize>;
-
-/// A tree that several parts of a run show and none changes: what leaves a state is what enters the next, and what the
-/// history tells is the same.
-pub type Datum = Rc<Tree>;
 
 /// The answer of a task.
 #[derive(Debug, Drop)]

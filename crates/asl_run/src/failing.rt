@@ -4,16 +4,13 @@ ghost use Rattle.std.specs.Prelude.{IfOk, List, ℕ};
 ghost use Rattle.asl_states.specs.Machine.{target_name};
 ghost use Rattle.asl_model.specs.Run as model;
 ghost use Rattle.asl_run.specs.Acting.{MayFollow, Plans, by_settings, by_trouble_at};
-ghost use Rattle.asl_run.specs.Faults.{fault_view};
-ghost use Rattle.asl_run.specs.Troubles.{CanRise};
+ghost use Rattle.asl_processing.specs.Faults.{fault_view};
+ghost use Rattle.asl_processing.specs.Troubles.{CanRise};
 ghost use Rattle.asl_tree.specs.View.{view};
 
-use crate::activities::Visit;
 use crate::changing::Change;
-use crate::entries::Datum;
-use crate::faults::{DataFlowError, Fault};
 use crate::planning::{Here, Plan};
-use crate::troubles::{Trouble, trouble_of};
+use asl_processing::{DataFlowError, Datum, Fault, Trouble, Visit, trouble_of};
 use asl_states::Target;
 use asl_tree::OutOfMemory;
 

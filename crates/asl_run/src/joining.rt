@@ -10,13 +10,13 @@ ghost use Rattle.asl_run.specs.Nodes.{AreHeads, shown_over};
 ghost use Rattle.asl_run.specs.Standing.{children_of};
 ghost use Rattle.asl_tree.specs.View.{view};
 
-use crate::data::Data;
 use crate::enabling::has_ended;
 use crate::entries::Outcome;
 use crate::failing::in_trouble;
 use crate::leaving::finish;
 use crate::nodes::Node;
 use crate::planning::{Here, Plan};
+use asl_processing::Data;
 use asl_states::Kind;
 use asl_tree::{OutOfMemory, Tree, copy};
 use std::alloc::Global;

@@ -6,18 +6,15 @@ ghost use Rattle.asl_model.specs.Faults as faults;
 ghost use Rattle.asl_model.specs.Run as model;
 ghost use Rattle.asl_model.specs.Tree as trees;
 ghost use Rattle.asl_run.specs.Acting.{MayFollow, Plans, by_settings};
-ghost use Rattle.asl_run.specs.Data.{data_view, datum_view};
-ghost use Rattle.asl_run.specs.Flowing.{Flows};
+ghost use Rattle.asl_processing.specs.Data.{data_view, datum_view};
+ghost use Rattle.asl_processing.specs.Flowing.{Flows};
 ghost use Rattle.asl_tree.specs.View.{view};
 
-use crate::activities::Visit;
 use crate::changing::Change;
-use crate::data::Data;
-use crate::entries::{Datum, Outcome};
+use crate::entries::Outcome;
 use crate::failing::raise;
-use crate::faults::Stop;
-use crate::flowing::output_of;
 use crate::planning::{Here, Plan};
+use asl_processing::{Data, Datum, Stop, Visit, output_of};
 use asl_states::Target;
 use asl_tree::OutOfMemory;
 

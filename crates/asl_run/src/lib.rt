@@ -1,21 +1,15 @@
-//! Runs of machines: what happens at each move and each answer of a task (States Language, "State Types", "Errors").
+//! Runs of machines: what happens at each move and each answer of a task (States Language, "State Types", "Errors"). What one
+//! state makes of its data and of its errors is the crate below.
 #![tactic(auto)]
 
 mod acting;
-mod activities;
 mod answers;
 mod changing;
-mod choosing;
-mod data;
-mod delays;
 mod driving;
 mod enabling;
 mod entering;
 mod entries;
 mod failing;
-mod faults;
-mod flowing;
-mod items;
 mod joining;
 mod leaving;
 mod nodes;
@@ -24,14 +18,12 @@ mod planning;
 mod running;
 mod standing;
 mod stepping;
-mod troubles;
 mod waiting;
-mod working;
 
 pub use answers::{Answers, ListAnswers};
+pub use asl_processing::{DataFlowError, Datum, Fault};
 pub use driving::{DriveRefusal, Stop, drive};
-pub use entries::{Answer, Datum, Entry, Event, Outcome, Place, Want};
-pub use faults::{DataFlowError, Fault};
+pub use entries::{Answer, Entry, Event, Outcome, Place, Want};
 pub use orders::{First, Last, Order};
 pub use running::{Run, start};
 pub use stepping::StepRefusal;

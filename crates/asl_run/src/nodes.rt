@@ -6,9 +6,9 @@ ghost use Rattle.asl_run.specs.Nodes.{IsBegunWith, IsTable, child_number, in_tab
 ghost use Rattle.asl_run.specs.declared.nodes.Node as code;
 ghost use Rattle.asl_run.specs.declared.nodes.Node.TheVariants as variants;
 
-use crate::activities::Visit;
 use crate::changing::Change;
-use crate::entries::{Datum, Outcome};
+use crate::entries::Outcome;
+use asl_processing::{Datum, Visit};
 use asl_tree::{OutOfMemory, Tree};
 use std::alloc::{AllocFailed, Global};
 use std::marker::Model;

@@ -4,16 +4,14 @@ ghost use Rattle.std.specs.Prelude.{◌≡◌, ◌∷◌, [], IfOk, IsOkAnd, map
 ghost use Rattle.asl_states.specs.Machine.{target_name};
 ghost use Rattle.asl_model.specs.Run as model;
 ghost use Rattle.asl_run.specs.Acting.{Plans, told_here};
-ghost use Rattle.asl_run.specs.Activities.{ended_view};
-ghost use Rattle.asl_run.specs.Entries.{entry_view, outcome_view};
-ghost use Rattle.asl_run.specs.Faults.{fault_view};
+ghost use Rattle.asl_run.specs.Entries.{ended_view, entry_view, outcome_view};
+ghost use Rattle.asl_processing.specs.Faults.{fault_view};
 ghost use Rattle.asl_tree.specs.View.{view};
 
-use crate::activities::Visit;
 use crate::changing::Change;
-use crate::entries::{Datum, Entry, Outcome, Place};
-use crate::faults::Fault;
+use crate::entries::{Entry, Outcome, Place};
 use asl_machine_table::Machine;
+use asl_processing::{Datum, Fault, Visit};
 use asl_states::{State, Target};
 use asl_tree::OutOfMemory;
 use std::alloc::Global;

@@ -1,9 +1,9 @@
 use Rattle.asl_model.specs.Flow as flow
 use Rattle.asl_model.specs.Run as model
 use Rattle.asl_run.specs.Acting.{MayCome, by_settings, by_state}
-use Rattle.asl_run.specs.Faults.{fault_view}
-use Rattle.asl_run.specs.Data.{data_view}
-use Rattle.asl_run.specs.declared.working.Work.TheVariants as works
+use Rattle.asl_processing.specs.Faults.{fault_view}
+use Rattle.asl_processing.specs.Data.{data_view}
+use Rattle.asl_processing.specs.declared.working.Work.TheVariants as works
 use Rattle.asl_run.proofs.Planned.{carried_off, with_premise}
 use Rattle.asl_run.proofs.entering.carry_out.Goals as goal
 

@@ -1,4 +1,4 @@
-use Rattle.asl_run.specs.Working.{work_view}
+use Rattle.asl_processing.specs.Working.{work_view}
 use Rattle.asl_run.proofs.Planned.{entered_so}
 use Rattle.asl_run.proofs.entering.enter.Goals as goal
 

@@ -1,7 +1,7 @@
 use Rattle.std.proofs.Common.{◌≡◌, List, ℕ, Ok, ap, subst}
 use Rattle.asl_model.specs.Run as model
-use Rattle.asl_run.specs.Troubles.{CanRise, TroubleLeads, trouble_view}
-use Rattle.asl_run.specs.declared.troubles.Trouble.TheVariants.{Catches, Retries}
+use Rattle.asl_processing.specs.Troubles.{CanRise, TroubleLeads, trouble_view}
+use Rattle.asl_processing.specs.declared.troubles.Trouble.TheVariants.{Catches, Retries}
 use Rattle.asl_run.proofs.Planned.{caught_so, troubled_so}
 use Rattle.asl_run.proofs.failing.in_trouble.Goals as goal
 

@@ -1,6 +1,6 @@
 use Rattle.std.proofs.Common.{◌≡◌, ◌∷◌, [], ◌∙◌, ap, arith, length, sym}
 use Rattle.std.specs.Vec.Iter.{into_iter_items}
-use Rattle.asl_run.proofs.Children.{nothing_left}
+use Rattle.std.proofs.lemmas.List.{nil_from_length}
 use Rattle.asl_run.proofs.WrittenTables.{added_all, added_one}
 use Rattle.asl_run.proofs.nodes.add.Goals as goal
 
@@ -32,5 +32,5 @@ pub returns-clause-added : goal.returns-clause-added
 returns-clause-added c =
     let at = c.loop-visit in
     let none = c.in-None.ensures.steps in
-    let empty : into_iter_items at.visit-iterator ≡ [] = nothing_left _ (sym at.invariant.left ∙ none.0) in
+    let empty : into_iter_items at.visit-iterator ≡ [] = nil_from_length _ (sym at.invariant.left ∙ none.0) in
     added_all at.nodes.items _ c.args.nodes.now.items (into_iter_items at.visit-iterator) _ c.args.visits.items empty c.into_iter-visit-iterator.ensures.into_iter_gives.0 c.reserve.ensures.items at.invariant.whole

@@ -1,8 +1,8 @@
 use Rattle.std.proofs.Common.{rules, sym, ap, refl, subst}
 use Rattle.asl_run.proofs.Visits.{raised_there}
 use Rattle.asl_run.specs.Changing.{visit_in}
-use Rattle.asl_run.specs.Troubles.{CanRise}
-use Rattle.asl_run.specs.declared.activities.Visit.{Visit}
+use Rattle.asl_processing.specs.Troubles.{CanRise}
+use Rattle.asl_processing.specs.declared.activities.Visit.{Visit}
 use Rattle.asl_run.proofs.nodes.Node.raise.Goals as goal
 
 pub raise-requires : goal.raise-requires

@@ -1,7 +1,7 @@
 use Rattle.std.proofs.Common.{refl, sym, ◌∙◌, subst}
 use Rattle.asl_model.proofs.RunOptions.{some_inj}
-use Rattle.asl_run.specs.Changing.{IsRaised}
-use Rattle.asl_run.specs.declared.activities.Visit.{Visit}
+use Rattle.asl_processing.specs.Activities.{IsRaised}
+use Rattle.asl_processing.specs.declared.activities.Visit.{Visit}
 use Rattle.asl_run.proofs.nodes.Node.retry.Goals as goal
 
 pub returns-in-Some-clause-retries : goal.returns-in-Some-clause-retries
