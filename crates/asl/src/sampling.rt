@@ -1,8 +1,9 @@
 //! From samples of data to the shape that they have in common, on standard output.
 
+use asl_breaks::refused_at;
 use asl_command_line::ShapeRequest;
-use asl_diagnostics::rule_of_text;
 use asl_files::{end, print_line, text_or_why};
+use asl_places::Place;
 use asl_samples::{opened, shape_of, shape_text};
 use asl_shape::Shape;
 use asl_tool::RunFault;
@@ -85,7 +86,7 @@ impl Samples {
                 self.trees.push(tree)?;
                 Ok(())
             }
-            Err(refusal) => self.note_refused(alloc, name, &refusal),
+            Err(refusal) => self.note_refused(alloc, name, text, &refusal),
         }
     }
 
@@ -96,16 +97,15 @@ impl Samples {
         &mut self,
         alloc: Global,
         name: &str,
+        text: &[u8],
         refusal: &TreeRefusal,
     ) -> Result<(), OutOfMemory> {
-        match rule_of_text(refusal) {
-            Some(rule) => {
-                let id = rule.id;
-                let short = rule.short;
-                self.note(alloc, name, &format!(in alloc; "{id}: {short}")?)
-            }
-            None => Err(OutOfMemory),
-        }
+        let Some((place, words)) = refused_at(alloc, text, refusal)? else {
+            return Err(OutOfMemory);
+        };
+        let Place { line, column } = place;
+        let name = in_line(alloc, name)?;
+        self.note(alloc, &format!(in alloc; "{name}:{line}:{column}")?, &words)
     }
 
     /// Notes why a file isn't taken.

@@ -4,12 +4,14 @@ use Rattle.std.specs.Option.{unwrap_or}
 use Rattle.asl_model.specs.Certificate.{Declared, waiting_name}
 use Rattle.asl_model.specs.Machine.{Scope}
 use Rattle.asl_model.specs.Numbering.{Table, table_of, IsWellNamed}
-use Rattle.asl_model.specs.Run.{Activity, Action, Gives, StandsIn, enabled, outcome_of}
+use Rattle.asl_model.specs.Run.{Activity, Action, StandsIn, enabled, outcome_of}
 use Rattle.asl_model.proofs.RunOptions.{some_inj}
 use Rattle.asl_run.specs.Driving as driving
 use Rattle.asl_run.specs.Driving.{Drives, Policy, Told}
+use Rattle.asl_run.specs.Entries.{answer_view}
 use Rattle.asl_run.specs.declared.driving.Stop.{Stop}
 use Rattle.asl_run.specs.declared.driving.Stop.TheVariants as stops
+use Rattle.asl_run.specs.declared.entries.Answer as code
 use Rattle.asl_suites.specs.Scripts.{StateScripts, ByAttempt, ByItem, answer_of, left_of}
 use Rattle.asl_cases.specs.Asking.{IsTurnOf, are_by_item, item_at, item_of}
 use Rattle.asl_cases.specs.Playing.{Answers, IsTaken, Plays, Stage, WaitsInTurn, stage_of}
@@ -176,11 +178,11 @@ unanswered machine shapes table before after number name place item attempt told
 }
 
 -- one is left that doesn't fit
-pub misfit : (machine : Scope) (shapes : Option Declared) (table : Table) (before : Stage) (after : Answers) (number : ℕ) (name place : List ℕ) (item : Option ℕ) (answer : Action) (attempt : ℕ) (told_item : Option ℕ) → table ≡ table_of machine → IsMeant machine before number name place item → Some answer ≡ answer_of (before.answers name) item
-    → after name ≡ option_map (λ own. left_of own item) (before.answers name) → ((n : List ℕ) → n ≢ name → after n ≡ before.answers n) → fits_task shapes name answer ≡ false → IsTurnOf table number name (after name) item before.told attempt told_item
-    → Stops machine shapes before (ends.AnswerShape number attempt told_item) (stage_of before.activity after before.told)
+pub misfit : (machine : Scope) (shapes : Option Declared) (table : Table) (before : Stage) (after : Answers) (number : ℕ) (name place : List ℕ) (item : Option ℕ) (answer : code.Answer) (attempt : ℕ) (told_item : Option ℕ) → table ≡ table_of machine → IsMeant machine before number name place item → Some (answer_view answer) ≡ answer_of (before.answers name) item
+    → after name ≡ option_map (λ own. left_of own item) (before.answers name) → ((n : List ℕ) → n ≢ name → after n ≡ before.answers n) → fits_task shapes name (answer_view answer) ≡ false → IsTurnOf table number name (after name) item before.told attempt told_item
+    → Stops machine shapes before (ends.AnswerShape number attempt told_item answer) (stage_of before.activity after before.told)
 misfit machine shapes table before after number name place item answer attempt told_item same is given left others unfit turn =
-    let wrong = misfits shapes name answer unfit in
+    let wrong = misfits shapes name (answer_view answer) unfit in
     record {
       count = 0;
       answers = before.answers;
@@ -195,7 +197,8 @@ misfit machine shapes table before after number name place item answer attempt t
           declared = wrong.declared;
           goes_on = is.goes_on;
           waits = is.waits;
-          taken = taken_so machine before after number name place item (Gives wrong.given) is (ap Some (sym wrong.is) ∙ given) left others;
+          taken = taken_so machine before after number name place item (answer_view answer) is given left others;
+          gives = wrong.is;
           is_declared = wrong.is_declared;
           misfit = wrong.misfit;
           turn = turn_told machine table before after number name place item attempt told_item same is left turn;

@@ -93,8 +93,8 @@ stops_there {machine = machine} {shapes = shapes} {before = before} {after = aft
     go ends.Output h = (h, λ n. refl)
     go ends.Failed h = (h, λ n. refl)
     go (ends.NoAnswer state attempt item) h = absurd h
-    go (ends.AnswerShape state attempt item) h = absurd h
-    go ends.InputShape h = absurd h
+    go (ends.AnswerShape state attempt item answer) h = absurd h
+    go (ends.InputShape input) h = absurd h
     go (ends.StepsSpent steps) h = absurd h
 
 -- or it goes on
@@ -132,8 +132,8 @@ ends_so : (given : Case) (most count more : ℕ) (stage : Stage) (end : End) (af
 ends_so given most count more stage ends.Output after fewer few plays ((output, ended), kept) = ((output, record { ended = ended; told = plays_ended (Output output) plays refl ended }), kept)
 ends_so given most count more stage ends.Failed after fewer few plays ((error, cause, ended), kept) = ((error, cause, record { ended = ended; told = plays_ended (FailedWith error cause) plays refl ended }), kept)
 ends_so given most count more stage (ends.NoAnswer state attempt item) after fewer few plays (none, unanswered, kept) = (omega arith, unanswered, kept)
-ends_so given most count more stage (ends.AnswerShape state attempt item) after fewer few plays (none, misfit) = (omega arith, misfit)
-ends_so given most count more stage ends.InputShape after fewer few plays h = absurd h
+ends_so given most count more stage (ends.AnswerShape state attempt item answer) after fewer few plays (none, misfit) = (omega arith, misfit)
+ends_so given most count more stage (ends.InputShape input) after fewer few plays h = absurd h
 ends_so given most count more stage (ends.StepsSpent steps) after fewer few plays h = absurd h
 
 -- it ends with one step more, or none

@@ -9,7 +9,10 @@ use Rattle.asl_model.specs.Run.{Outcome, Output, FailedWith, enabled, last_activ
 use Rattle.asl_model.specs.Shape.{has}
 use Rattle.asl_model.specs.Tree.{Tree}
 use Rattle.asl_run.specs.Driving.{Told}
+use Rattle.asl_run.specs.Entries.{answer_view}
 use Rattle.asl_suites.specs.Scripts.{StateScripts, answer_of, left_of}
+use Rattle.asl_tree.specs.View.{view}
+use Rattle.asl_tree.specs.declared.Tree as trees
 use Rattle.asl_cases.specs.Asking.{IsTurnOf, item_of, last_of}
 use Rattle.asl_cases.specs.declared.playing.End.{End}
 use Rattle.asl_cases.specs.declared.playing.End.TheVariants as ends
@@ -133,16 +136,18 @@ pub record IsUnanswered (machine : Scope) (stage : Stage) (number attempt : ℕ)
   pub turn : IsTurnOf (table_of machine) number name (stage.answers name)
       (item_of machine place stage.activity) stage.told attempt item
 
--- So where the next answer gives what isn't of the shape that is declared for the task. It is taken, and not used.
+-- So where the next answer, that one, gives what isn't of the shape that is declared for the task. It is taken, and not
+-- used.
 pub record IsMisfit (machine : Scope) (shapes : Option Declared) (stage : Stage) (number attempt : ℕ)
-    (item : Option ℕ) (after : Answers) : Type 0 where
+    (item : Option ℕ) (answer : Action) (after : Answers) : Type 0 where
   pub name : List ℕ
   pub place : List ℕ
   pub given : Tree
   pub declared : Declared
   pub goes_on : outcome_of stage.activity ≡ None
   pub waits : WaitsInTurn machine stage.activity number name place
-  pub taken : IsTaken stage.answers name (item_of machine place stage.activity) (Gives given) after
+  pub taken : IsTaken stage.answers name (item_of machine place stage.activity) answer after
+  pub gives : answer ≡ Gives given
   pub is_declared : shapes ≡ Some declared
   pub misfit : has (gives_of declared name) given ≡ false
   pub turn : IsTurnOf (table_of machine) number name (stage.answers name)
@@ -156,9 +161,9 @@ EndsSo machine shapes most count stage ends.Failed after =
     ((error : List ℕ) × (cause : List ℕ) × HasEnded stage (FailedWith error cause)) × AreKept stage.answers after
 EndsSo machine shapes most count stage (ends.NoAnswer state attempt item) after =
     (count < most) × IsUnanswered machine stage state attempt item × AreKept stage.answers after
-EndsSo machine shapes most count stage (ends.AnswerShape state attempt item) after =
-    (count < most) × IsMisfit machine shapes stage state attempt item after
-EndsSo machine shapes most count stage ends.InputShape after = ⊥
+EndsSo machine shapes most count stage (ends.AnswerShape state attempt item answer) after =
+    (count < most) × IsMisfit machine shapes stage state attempt item (answer_view answer) after
+EndsSo machine shapes most count stage (ends.InputShape input) after = ⊥
 EndsSo machine shapes most count stage (ends.StepsSpent steps) after =
     (outcome_of stage.activity ≡ None) × (count ≡ most) × (steps ≡ most) × AreKept stage.answers after
 
@@ -173,7 +178,8 @@ pub record IsRun (given : Case) (most : ℕ) (end : End) (told : Told) (after : 
 
 -- What a case comes to: nothing happens where its input isn't of the declared shape, else there is a run.
 pub data ComesTo (given : Case) (most : ℕ) : End → Told → Answers → Type 0 where
-  input_misfits : {after : Answers} → fits_input given.shapes given.input ≡ false
-      → AreKept given.answers after → ComesTo given most ends.InputShape [] after
+  input_misfits : {input : trees.Tree} {after : Answers} → view input ≡ given.input
+      → fits_input given.shapes given.input ≡ false → AreKept given.answers after
+      → ComesTo given most (ends.InputShape input) [] after
   is_run : {end : End} {told : Told} {after : Answers} → fits_input given.shapes given.input ≡ true
       → IsRun given most end told after → ComesTo given most end told after

@@ -10,6 +10,7 @@ use Rattle.asl_model.specs.Run.{Event, Outcome, Output, FailedWith, outcome_of}
 use Rattle.asl_model.specs.Shape.{has}
 use Rattle.asl_model.specs.Tree.{Tree}
 use Rattle.asl_run.specs.Driving.{IsTold, Told}
+use Rattle.asl_run.specs.Entries.{answer_view}
 use Rattle.asl_cases.specs.Asking.{last_of}
 use Rattle.asl_cases.specs.Playing.{AreKept, Answers, IsMisfit, IsUnanswered, Plays, Stage}
 use Rattle.asl_cases.specs.Playing.{WaitsInTurn, place_of_turn, stage_of}
@@ -92,8 +93,8 @@ EndsWith (Some ends.Output) outcome = (output : Tree) × (outcome ≡ Some (Outp
 EndsWith (Some ends.Failed) outcome =
     (error : List ℕ) × (cause : List ℕ) × (outcome ≡ Some (FailedWith error cause))
 EndsWith (Some (ends.NoAnswer state attempt item)) outcome = ⊥
-EndsWith (Some (ends.AnswerShape state attempt item)) outcome = ⊥
-EndsWith (Some ends.InputShape) outcome = ⊥
+EndsWith (Some (ends.AnswerShape state attempt item answer)) outcome = ⊥
+EndsWith (Some (ends.InputShape input)) outcome = ⊥
 EndsWith (Some (ends.StepsSpent steps)) outcome = ⊥
 
 -- the event was taken and told, and that is how the case ends, where it does
@@ -111,9 +112,9 @@ StopsSo machine shapes count stage ends.Failed after =
     × AreKept stage.answers after
 StopsSo machine shapes count stage (ends.NoAnswer state attempt item) after =
     (count ≡ 0) × IsUnanswered machine stage state attempt item × AreKept stage.answers after
-StopsSo machine shapes count stage (ends.AnswerShape state attempt item) after =
-    (count ≡ 0) × IsMisfit machine shapes stage state attempt item after
-StopsSo machine shapes count stage ends.InputShape after = ⊥
+StopsSo machine shapes count stage (ends.AnswerShape state attempt item answer) after =
+    (count ≡ 0) × IsMisfit machine shapes stage state attempt item (answer_view answer) after
+StopsSo machine shapes count stage (ends.InputShape input) after = ⊥
 StopsSo machine shapes count stage (ends.StepsSpent steps) after = ⊥
 
 -- a case ends so after one more step, or none

@@ -18,9 +18,8 @@ pub fn mistake_in(
     answers: &CaseAnswers,
     expected: &Expected,
 ) -> Result<Option<String>, OutOfMemory> {
-    let mistake = mistake_in_answers(alloc, machine, answers)?;
-    if mistake.is_some() {
-        return Ok(mistake);
+    if let Some(why) = mistake_in_answers(alloc, machine, answers)? {
+        return Ok(Some(format!(in alloc; "answers: {why}")?));
     }
     if let Some(path) = &expected.path {
         let mistake = mistake_in_path(alloc, machine, path)?;
@@ -31,15 +30,18 @@ pub fn mistake_in(
     mistake_in_payloads(alloc, machine, &expected.payloads)
 }
 
-/// The first mistake in the answers.
-fn mistake_in_answers(
+/// The first name of a state in the answers that the machine doesn't have as the name of a Task, or, where they are by
+/// item, of one in a Map, in words; none where it has them all.
+///
+/// Refused: want of memory.
+pub fn mistake_in_answers(
     alloc: Global,
     machine: &Machine,
     answers: &CaseAnswers,
 ) -> Result<Option<String>, OutOfMemory> {
     for (state, by_item) in answers.states() {
         if let Some(why) = why_no_task(alloc, machine, state, by_item)? {
-            return Ok(Some(format!(in alloc; "answers: {why}")?));
+            return Ok(Some(why));
         }
     }
     Ok(None)

@@ -60,7 +60,7 @@ fn outcome_in<'e>(entry: &'e Entry<'_>) -> Option<&'e Outcome>
 
 /// How a case ends. States are told by number, attempts and items are counted from 0; an item is told where the answers
 /// of the state are by item, and only its own attempts count then.
-#[derive(Clone, Copy, Debug, PartialEq, Drop)]
+#[derive(Debug, Drop)]
 pub enum End {
     /// The run has ended with an output, which the last entry of the trace tells.
     Output,
@@ -77,9 +77,10 @@ pub enum End {
         state: usize,
         attempt: usize,
         item: Option<usize>,
+        answer: Answer,
     },
     /// The input isn't of the declared shape; nothing has happened.
-    InputShape,
+    InputShape(Tree),
     /// So many steps were taken as there may be, and the run hasn't ended.
     StepsSpent(u64),
 }
@@ -110,7 +111,7 @@ pub fn play<'m>(
         play_run(alloc, machine, declared, input, answers, max_steps)
     } else {
         Ok(Played {
-            end: End::InputShape,
+            end: End::InputShape(input),
             trace: Vec::new(alloc),
         })
     }
@@ -217,12 +218,13 @@ fn answer<'m>(
         Some(answer) if fits_task(declared, name, &answer) => {
             take_answer(run, Event::Answers(place, answer), trace)
         }
-        Some(_) => {
+        Some(answer) => {
             let (attempt, item) = turn_of(machine, answers, state, item, trace);
             Ok(Some(End::AnswerShape {
                 state,
                 attempt,
                 item,
+                answer,
             }))
         }
         None => {

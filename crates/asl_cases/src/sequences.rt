@@ -6,8 +6,8 @@ ghost use Rattle.asl_run.specs.Entries.{entry_view};
 ghost use Rattle.asl_tree.specs.View.{view};
 ghost use Rattle.asl_cases.specs.Judging.{AreAsked, asked_in, entered_in, path_of, payloads_of};
 
-use crate::differing::first_difference;
-use crate::words::{counted, expected_found, tree_text};
+use crate::words::counted;
+use asl_differences::{expected_found, first_difference, tree_text};
 use asl_run::Entry;
 use asl_suites::ExpectedPayloads;
 use asl_tree::{OutOfMemory, Tree, quoted};

@@ -2,7 +2,8 @@
 //!
 //! An [`Index`] finds members and elements in a text. [`Paths`] are those that stand in a value, in whichever spelling;
 //! [`faults_of_shape`] and [`fault_of_rule`] look into a shape, and a rule of a Choice, that is refused for what in it is
-//! wrong, and [`Kinds`] for values of another kind than their fields want.
+//! wrong, and [`Kinds`] for values of another kind than their fields want. [`isnt_path`] and [`isnt_call`] say of a text why
+//! it isn't read.
 #![tactic(auto)]
 
 mod found;
@@ -15,6 +16,7 @@ mod shape_faults;
 mod sources;
 mod sure;
 mod templates;
+mod unread;
 
 pub use found::{Found, Words};
 pub use index::Index;
@@ -24,3 +26,4 @@ pub use rule_faults::fault_of_rule;
 pub use shape_faults::faults_of_shape;
 pub use sources::{string_at, text_at, text_from};
 pub use templates::{SUFFIX, refusal_of};
+pub use unread::{INTO_CONTEXT, isnt_call, isnt_path};

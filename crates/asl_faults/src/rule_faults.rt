@@ -2,6 +2,7 @@
 use crate::found::Found;
 use crate::index::Index;
 use crate::placed::{Placed, object_of, tree_at};
+use crate::unread::isnt_path_at;
 use asl_choice::{RuleRefusal, from_tree};
 use asl_places::Spot;
 use asl_tree::{OutOfMemory, Tree, copy};
@@ -207,7 +208,10 @@ fn fault_of_variable(alloc: Global, path: &Tree) -> Result<Option<Told>, OutOfMe
     fields.push(("Variable", copy(alloc, path)?))?;
     fields.push(("IsNull", Tree::Bool(true)))?;
     let refusal = refusal_inside(alloc, object_of(alloc, fields)?)?;
-    Ok(refusal.map(|_| Told::Text("is no reference path")))
+    match refusal {
+        Some(_) => Ok(Some(Told::Text(isnt_path_at(alloc, path)?))),
+        None => Ok(None),
+    }
 }
 
 /// What is wrong with an operator or with its value, if anything is.
@@ -217,7 +221,7 @@ fn fault_of_operator(alloc: Global, name: &str, value: &Tree) -> Result<Option<T
     };
     Ok(match refusal {
         RuleRefusal::UnknownOperator => Some(Told::Name("is no operator of rules that is read")),
-        RuleRefusal::BadPath => Some(Told::Text("is no reference path")),
+        RuleRefusal::BadPath => Some(Told::Text(isnt_path_at(alloc, value)?)),
         RuleRefusal::BadPattern => Some(Told::Text(
             "has a backslash that stands before neither a star nor a backslash",
         )),

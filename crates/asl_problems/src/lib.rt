@@ -5,7 +5,6 @@
 //! [`add_warnings`] what is odd in one. [`diagnostics_of`] gives problems their places in the texts, and their messages.
 #![tactic(auto)]
 
-mod breaks;
 mod complaint_places;
 mod complaints;
 mod declared_places;

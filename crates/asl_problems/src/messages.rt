@@ -1,12 +1,14 @@
 //! What is wrong, in a sentence without a period.
-use crate::breaks::{Break, Reason, break_of};
 use crate::found::At;
 use crate::problems::{Kind, Problem};
+use asl_breaks::break_of;
 use asl_check::FindingFault;
 use asl_diagnostics::Rule;
-use asl_faults::{Words, refusal_of, sentence_of_kind, string_at, text_at, text_from};
+use asl_faults::{
+    INTO_CONTEXT, Words, isnt_call, isnt_path, refusal_of, sentence_of_kind, string_at, text_at,
+    text_from,
+};
 use asl_machine::DefFault;
-use asl_places::{FaultKind, Wanted};
 use asl_records::RecordFault;
 use asl_template::SpellingRefusal;
 use asl_tree::OutOfMemory;
@@ -37,7 +39,7 @@ fn message_of(
 ) -> Result<String, OutOfMemory> {
     let field = field_of(problem);
     match &problem.kind {
-        Kind::NotJson(_) => about_break(alloc, text),
+        Kind::NotJson(_) => break_of(alloc, text)?.words(alloc, text),
         Kind::Complaint(DefFault::BadTemplate) => {
             about_template(alloc, problem.rule, text, offset)
         }
@@ -79,53 +81,6 @@ fn without_period(text: &str) -> &str {
     text.strip_suffix(".").unwrap_or(text)
 }
 
-/// About a text that is no JSON.
-fn about_break(alloc: Global, text: &[u8]) -> Result<String, OutOfMemory> {
-    let found = break_of(alloc, text)?;
-    match found.reason {
-        Reason::NoUtf8 => sentence(alloc, "The text isn't UTF-8 here"),
-        Reason::TooLarge => sentence(alloc, "The number is too large"),
-        Reason::Fault(FaultKind::Wanted(wanted)) if found.byte < text.len() => {
-            Ok(format!(in alloc; "{} is wanted here", words_of(wanted))?)
-        }
-        Reason::Fault(FaultKind::Wanted(wanted)) => {
-            Ok(format!(in alloc; "{} is wanted where the text ends", words_of(wanted))?)
-        }
-        Reason::Fault(kind) => sentence(alloc, sentence_of(kind)),
-    }
-}
-
-/// What is wanted, in words.
-fn words_of(wanted: Wanted) -> &'static str {
-    match wanted {
-        Wanted::Value => "A value",
-        Wanted::ValueOrBracket => "A value or `]`",
-        Wanted::Name => "A name in double quotes",
-        Wanted::NameOrBrace => "A name in double quotes or `}`",
-        Wanted::Colon => "`:`",
-        Wanted::CommaOrBrace => "`,` or `}`",
-        Wanted::CommaOrBracket => "`,` or `]`",
-        Wanted::Digit => "A digit",
-        Wanted::Nothing => "The end of the text",
-    }
-}
-
-/// Why a text can't go on as JSON where nothing else is wanted.
-fn sentence_of(kind: FaultKind) -> &'static str {
-    match kind {
-        FaultKind::Wanted(_) => "Something else is wanted here",
-        FaultKind::Word => "A word outside of strings is none of `true`, `false` and `null`",
-        FaultKind::LeadingZero => "A number has a zero in front of other digits",
-        FaultKind::LineBreak => "A string isn't closed on its line",
-        FaultKind::Control => "A string has a control character that isn't written as an escape",
-        FaultKind::Escape => "There is no such escape in a string",
-        FaultKind::Surrogate => "A string has half of a surrogate pair",
-        FaultKind::OpenString => "The text ends within a string",
-        FaultKind::TooDeep => "Arrays and objects nest deeper than 127 levels",
-        FaultKind::ByteOrderMark => "The text begins with a byte order mark",
-    }
-}
-
 /// About a complaint of a definition, at whose place the text goes on so.
 fn about_complaint(
     alloc: Global,
@@ -145,9 +100,17 @@ fn about_complaint(
             "is the name of no state of this scope",
         ),
         DefFault::UnknownType => about_string(alloc, problem.rule, text, "is no type of state"),
-        DefFault::BadPath => about_string(alloc, problem.rule, text, "is no reference path"),
+        DefFault::BadPath => about_path(alloc, problem.rule, text),
         DefFault::WrongKind => about_wrong_kind(alloc, problem.rule, field),
         _ => general(alloc, problem.rule),
+    }
+}
+
+/// About a path that isn't read, with which the text goes on.
+fn about_path(alloc: Global, rule: &Rule, text: &[u8]) -> Result<String, OutOfMemory> {
+    match text_at(alloc, text)? {
+        Some(said) => about_string(alloc, rule, text, isnt_path(alloc, &said)?),
+        None => general(alloc, rule),
     }
 }
 
@@ -226,9 +189,9 @@ fn about_template(
         );
     };
     let isnt = match refusal_of(alloc, &said, true)? {
-        Some(SpellingRefusal::BadPath) => "is no reference path",
-        Some(SpellingRefusal::BadIntrinsic) => "is no call of an intrinsic function that is read",
-        _ => "goes into the context object, which isn't read here",
+        Some(SpellingRefusal::BadPath) => isnt_path(alloc, &said)?,
+        Some(SpellingRefusal::BadIntrinsic) => isnt_call(alloc, &said)?,
+        _ => INTO_CONTEXT,
     };
     about_string(alloc, rule, text, isnt)
 }

@@ -2,7 +2,6 @@
 ghost use Rattle.std.specs.Prelude.{◌≡◌, IfOk, map};
 ghost use Rattle.asl_problems.specs.Told.{told_by, told_of};
 
-use crate::breaks::{break_of, first_fraction};
 use crate::declared_places::{places_in_declared, spot_in_declared};
 use crate::definition_places::DefinitionPlaces;
 use crate::files::File;
@@ -12,6 +11,7 @@ use crate::messages::message_at;
 use crate::problems::{Kind, Problem, Which};
 use crate::scopes::{Scoped, Text};
 use crate::sources::Outlined;
+use asl_breaks::{break_of, first_fraction};
 use asl_diagnostics::Diagnostic;
 use asl_faults::{Index, Paths};
 use asl_places::{Places, States};

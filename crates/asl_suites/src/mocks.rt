@@ -8,14 +8,15 @@ use crate::places::Place;
 use crate::refusals::{SuiteFault, SuiteRefusal, Wanted};
 use crate::scripts::{Script, Times};
 use crate::similar::unknown;
-use asl_tree::{Tree, copy};
+use asl_tree::{OutOfMemory, Tree, copy};
 use std::alloc::Global;
 use std::collections::BTreeMap;
 
 /// What a mock file has for one state machine.
 #[derive(Debug, Drop)]
 pub struct Mocks {
-    state_machine: String,
+    /// The way to the test cases.
+    place: String,
     test_cases: BTreeMap<String, Tree>,
     responses: BTreeMap<String, Tree>,
 }
@@ -38,9 +39,10 @@ pub fn read_mocks(alloc: Global, tree: Tree, state_machine: &str) -> Result<Mock
     };
     let place = Place::Field(&place, state_machine);
     let test_cases = Fields::of(alloc, &place, machine)?.required("TestCases")?;
+    let place = Place::Field(&place, "TestCases");
     Ok(Mocks {
-        state_machine: String::from_str(alloc, state_machine)?,
-        test_cases: object_of(alloc, &Place::Field(&place, "TestCases"), test_cases)?,
+        place: place.text(alloc)?,
+        test_cases: object_of(alloc, &place, test_cases)?,
         responses: object_of(alloc, &Place::Field(&whole, "MockedResponses"), responses)?,
     })
 }
@@ -53,10 +55,7 @@ impl Mocks {
     /// aren't 0, 1, 2 and so on without a gap and without one twice, and answers that are none. Want of memory is
     /// told apart.
     pub fn answers(&self, alloc: Global, test_case: &str) -> Result<CaseAnswers, SuiteRefusal> {
-        let whole = Place::Whole;
-        let machines = Place::Field(&whole, "StateMachines");
-        let machine = Place::Field(&machines, &self.state_machine);
-        let test_cases = Place::Field(&machine, "TestCases");
+        let test_cases = Place::Told(&self.place);
         let Some(tree) = self.test_cases.get(test_case) else {
             let unknown = unknown(alloc, test_case, &self.test_cases)?;
             return Err(test_cases.refusal(alloc, SuiteFault::NoTestCase(unknown)));
@@ -68,6 +67,11 @@ impl Mocks {
                 Err(place.refusal(alloc, SuiteFault::WrongKind(Wanted::Object)))
             }
         }
+    }
+
+    /// The place of the test case of that name, whether it is there or not. Refuses only where an allocation was refused.
+    pub fn place_of(&self, alloc: Global, test_case: &str) -> Result<String, OutOfMemory> {
+        Place::Field(&Place::Told(&self.place), test_case).text(alloc)
     }
 
     /// The answers of those states, each of the response that it names.

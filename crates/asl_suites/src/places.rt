@@ -9,6 +9,8 @@ use std::alloc::Global;
 pub(crate) enum Place<'a> {
     /// The whole value.
     Whole,
+    /// The place to which that is the way.
+    Told(&'a str),
     /// The field of that name of the object at that place.
     Field(&'a Place<'a>, &'a str),
     /// The element of that number of the list at that place.
@@ -18,11 +20,17 @@ pub(crate) enum Place<'a> {
 impl Place<'_> {
     /// The refusal for something wrong here.
     pub(crate) fn refusal(&self, alloc: Global, fault: SuiteFault) -> SuiteRefusal {
-        let mut place = String::new(alloc);
-        match push_place(alloc, &mut place, self) {
-            Ok(()) => SuiteRefusal::Wrong { place, fault },
+        match self.text(alloc) {
+            Ok(place) => SuiteRefusal::Wrong { place, fault },
             Err(OutOfMemory) => SuiteRefusal::OutOfMemory,
         }
+    }
+
+    /// The way to the place; nothing for the whole value. Refuses only where an allocation was refused.
+    pub(crate) fn text(&self, alloc: Global) -> Result<String, OutOfMemory> {
+        let mut text = String::new(alloc);
+        push_place(alloc, &mut text, self)?;
+        Ok(text)
     }
 }
 
@@ -30,6 +38,7 @@ impl Place<'_> {
 fn push_place(alloc: Global, text: &mut String, place: &Place<'_>) -> Result<(), OutOfMemory> {
     match place {
         Place::Whole => Ok(()),
+        Place::Told(way) => Ok(text.push_str(way)?),
         Place::Field(above, name) => {
             push_place(alloc, text, above)?;
             push_field(alloc, text, name)

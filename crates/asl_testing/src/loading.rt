@@ -1,9 +1,10 @@
 //! Suites of test cases with the files that they name.
 
-use asl_cases::mistake_in;
-use asl_diagnostics::rule_of_text;
+use asl_breaks::refused_at;
+use asl_cases::{mistake_in, mistake_in_answers};
 use asl_files::{is_input, text_or_why};
 use asl_machine::Machine;
+use asl_places::Place;
 use asl_records::Declared;
 use asl_suites::{
     Case, CaseAnswers, Expected, Input as CaseInput, MockSource, Mocks, Suite, SuiteRefusal,
@@ -22,6 +23,8 @@ pub(crate) enum Unfit {
     /// In words, behind the place in the suite where it isn't as it should be, and behind the name of the file, where that is
     /// another one.
     Why(String),
+    /// So of a text that breaks at that place.
+    Broken(Place, String),
     OutOfMemory,
 }
 
@@ -159,7 +162,7 @@ fn load_cases<R: Files + Input + AllocGlobal>(
 ) -> Result<Vec<LoadedCase>, Unfit> {
     let mut loaded = Vec::new(rt.alloc());
     for (number, case) in cases.into_iter().enumerate() {
-        let case = load_case(rt, suite, number, mocks, case)?;
+        let case = load_case(rt, suite, number, machine, mocks, case)?;
         let case = without_mistake(rt.alloc(), number, machine, case)?;
         if loaded.push(case).is_err() {
             return Err(Unfit::OutOfMemory);
@@ -190,6 +193,7 @@ fn load_case<R: Files + Input + AllocGlobal>(
     rt: &R,
     suite: &str,
     number: usize,
+    machine: &Machine,
     mocks: &Option<MockFile>,
     case: Case,
 ) -> Result<LoadedCase, Unfit> {
@@ -204,7 +208,9 @@ fn load_case<R: Files + Input + AllocGlobal>(
         name,
         input: input_of(rt, suite, number, input)?,
         answers: match (test_case, mocks) {
-            (Some(test_case), Some(mocks)) => mocks.added_to(rt.alloc(), answers, &test_case)?,
+            (Some(test_case), Some(mocks)) => {
+                mocks.added_to(rt.alloc(), machine, answers, &test_case)?
+            }
             _ => answers,
         },
         expected,
@@ -240,17 +246,28 @@ fn at_case(alloc: Global, number: usize, field: &str, why: Unfit) -> Result<Unfi
 impl MockFile {
     /// The answers of a case, and for states without some those of the test case of that name.
     ///
-    /// Refused: in words where there is no such test case; OutOfMemory.
+    /// Refused: in words where there is no such test case, or where it has a name that the machine hasn't; OutOfMemory.
     fn added_to(
         &self,
         alloc: Global,
+        machine: &Machine,
         answers: CaseAnswers,
         name: &str,
     ) -> Result<CaseAnswers, Unfit> {
-        match self.mocks.answers(alloc, name) {
-            Ok(mocked) => Ok(answers.or_mocked(mocked)?),
-            Err(refusal) => Err(unfit_mocks(alloc, &self.path, refusal)?),
+        let mocked = match self.mocks.answers(alloc, name) {
+            Ok(mocked) => mocked,
+            Err(refusal) => return Err(self.unfit(alloc, unfit_suite(alloc, refusal)?)?),
+        };
+        if let Some(mistake) = mistake_in_answers(alloc, machine, &mocked)? {
+            let place = self.mocks.place_of(alloc, name)?;
+            return Err(self.unfit(alloc, words_at(alloc, &place, &mistake)?)?);
         }
+        Ok(answers.or_mocked(mocked)?)
+    }
+
+    /// That a suite can't be used for what stands in the file.
+    fn unfit(&self, alloc: Global, why: Unfit) -> Result<Unfit, OutOfMemory> {
+        unfit_mocks(alloc, &self.path, why)
     }
 }
 
@@ -268,16 +285,18 @@ fn mocks_in<R: Files + Input + AllocGlobal>(
     };
     match read_mocks(rt.alloc(), tree, state_machine) {
         Ok(mocks) => Ok(MockFile { path, mocks }),
-        Err(refusal) => Err(unfit_mocks(rt.alloc(), &path, refusal)?),
+        Err(refusal) => {
+            let why = unfit_suite(rt.alloc(), refusal)?;
+            Err(unfit_mocks(rt.alloc(), &path, why)?)
+        }
     }
 }
 
 /// The place in a suite of the name of a mock file.
 const MOCKS: &str = "mocks.file";
 
-/// That a file has no such mocks.
-fn unfit_mocks(alloc: Global, path: &str, refusal: SuiteRefusal) -> Result<Unfit, OutOfMemory> {
-    let why = unfit_suite(alloc, refusal)?;
+/// That a suite can't be used for what stands in the mock file of that path.
+fn unfit_mocks(alloc: Global, path: &str, why: Unfit) -> Result<Unfit, OutOfMemory> {
     at(alloc, MOCKS, at(alloc, path, why)?)
 }
 
@@ -333,7 +352,7 @@ fn tree_in<R: Files + Input + AllocGlobal>(rt: &R, path: &str) -> Result<Tree, U
     };
     match read(rt.alloc(), &text) {
         Ok(tree) => Ok(tree),
-        Err(refusal) => Err(unfit_tree(rt.alloc(), &refusal)?),
+        Err(refusal) => Err(unfit_tree(rt.alloc(), &text, &refusal)?),
     }
 }
 
@@ -350,14 +369,10 @@ fn unfit_suite(alloc: Global, refusal: SuiteRefusal) -> Result<Unfit, OutOfMemor
     }
 }
 
-/// That a file is no JSON, or has a number that isn't whole.
-fn unfit_tree(alloc: Global, refusal: &TreeRefusal) -> Result<Unfit, OutOfMemory> {
-    match rule_of_text(refusal) {
-        Some(rule) => {
-            let id = rule.id;
-            let short = rule.short;
-            Ok(Unfit::Why(format!(in alloc; "{id}: {short}")?))
-        }
+/// That the text of a file is no JSON, or has a number that isn't whole.
+fn unfit_tree(alloc: Global, text: &[u8], refusal: &TreeRefusal) -> Result<Unfit, OutOfMemory> {
+    match refused_at(alloc, text, refusal)? {
+        Some((place, words)) => Ok(Unfit::Broken(place, words)),
         None => Ok(Unfit::OutOfMemory),
     }
 }
@@ -382,12 +397,23 @@ fn unfit_text(alloc: Global, fault: RunFault) -> Result<Unfit, OutOfMemory> {
 /// The same with that place, or that name of a file, in front.
 fn at(alloc: Global, place: &str, why: Unfit) -> Result<Unfit, OutOfMemory> {
     match why {
-        Unfit::Why(words) => {
-            let place = in_line(alloc, place)?;
-            Ok(Unfit::Why(format!(in alloc; "{place}: {words}")?))
-        }
+        Unfit::Why(words) => words_at(alloc, place, &words),
+        Unfit::Broken(found, words) => words_at(alloc, &placed(alloc, place, found)?, &words),
         Unfit::OutOfMemory => Ok(Unfit::OutOfMemory),
     }
+}
+
+/// Why a suite can't be used, behind that place, or that name of a file.
+fn words_at(alloc: Global, place: &str, words: &str) -> Result<Unfit, OutOfMemory> {
+    let place = in_line(alloc, place)?;
+    Ok(Unfit::Why(format!(in alloc; "{place}: {words}")?))
+}
+
+/// The name of a file with a place in it.
+pub(crate) fn placed(alloc: Global, name: &str, place: Place) -> Result<String, OutOfMemory> {
+    let Place { line, column } = place;
+    let name = in_line(alloc, name)?;
+    Ok(format!(in alloc; "{name}:{line}:{column}")?)
 }
 
 /// The path of a file that a suite names: from the suite's own folder on, where it isn't from the root. None of them is

@@ -1,7 +1,7 @@
 //! From suites of test cases to which of them pass, on standard output.
 
 use crate::hints::with_hint;
-use crate::loading::{Loaded, LoadedCase, Unfit, load};
+use crate::loading::{Loaded, LoadedCase, Unfit, load, placed};
 use asl_cases::{Coverage, difference, play};
 use asl_files::{end, print_text};
 use asl_machine::Machine;
@@ -81,6 +81,9 @@ fn tests_in<R: Files + Input + AllocGlobal>(
             }
             Ok(loaded) => tests.add(rt.alloc(), request, name, loaded)?,
             Err(Unfit::Why(why)) => tests.note(rt.alloc(), name, &why)?,
+            Err(Unfit::Broken(place, why)) => {
+                tests.note(rt.alloc(), &placed(rt.alloc(), name, place)?, &why)?;
+            }
             Err(Unfit::OutOfMemory) => return Err(OutOfMemory),
         }
     }
@@ -216,7 +219,7 @@ fn result_of_case(
     } = case;
     let played = play(alloc, machine, declared, input, &mut answers, MOST_STEPS)?;
     coverage.add(machine, &played.trace);
-    let difference = match difference(alloc, machine, &played, &expected)? {
+    let difference = match difference(alloc, machine, declared, &played, &expected)? {
         Some(words) => Some(with_hint(alloc, machine, &played.trace, words)?),
         None => None,
     };

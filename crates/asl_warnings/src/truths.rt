@@ -2,7 +2,7 @@
 
 ghost use Rattle.std.specs.Prelude.{◌<◌, ◌≤◌, length};
 
-use asl_choice::{Test, ValueKind};
+use asl_choice::{Comparison, Operand, Test, ValueKind};
 use asl_flow::{find_at, let_through_at};
 use asl_numbered::{NodeKinds, Shapes};
 use asl_path::RefPath;
@@ -36,7 +36,14 @@ pub(crate) fn settled_truth(
             kind,
             wanted,
         } => settled_kind(shapes, variable, *kind, *wanted, number),
-        Test::Compare { .. } | Test::StringMatches { .. } => Ok(None),
+        Test::Compare {
+            variable,
+            comparison,
+            operand,
+        } => settled_comparison(shapes, variable, *comparison, operand, number),
+        Test::StringMatches { variable, .. } => {
+            settled_by_kind(shapes, variable, ValueKind::String, number)
+        }
     }
 }
 
@@ -121,6 +128,48 @@ fn settled_kind(
         Ok(Some(wanted))
     } else {
         Ok(None)
+    }
+}
+
+/// So for a comparison: it is settled where one of its two values is never of the kind that is compared.
+fn settled_comparison(
+    shapes: &mut Shapes,
+    path: &RefPath,
+    comparison: Comparison,
+    operand: &Operand,
+    number: usize,
+) -> Result<Option<bool>, OutOfMemory>
+    requires { number < length shapes.old }
+    ensures { length shapes.old ≤ length shapes.new }
+{
+    let kind = match comparison {
+        Comparison::String(_) => ValueKind::String,
+        Comparison::Numeric(_) => ValueKind::Numeric,
+        Comparison::BooleanEquals => ValueKind::Boolean,
+    };
+    match (settled_by_kind(shapes, path, kind, number)?, operand) {
+        (None, Operand::AtPath(other)) => settled_by_kind(shapes, other, kind, number),
+        (settled, _) => Ok(settled),
+    }
+}
+
+/// So for a test that is true only where what the path names is of that kind: it is settled where that never is.
+#[tactic(auto, using(asl_numbered::specs::Laws::keeps_longer))]
+fn settled_by_kind(
+    shapes: &mut Shapes,
+    path: &RefPath,
+    kind: ValueKind,
+    number: usize,
+) -> Result<Option<bool>, OutOfMemory>
+    requires { number < length shapes.old }
+    ensures { length shapes.old ≤ length shapes.new }
+{
+    let Ok(found) = find_at(shapes, number, path)? else {
+        return Ok(None);
+    };
+    match shapes.take_apart(found) {
+        Some(kinds) if !takes_kind(&kinds, kind) => Ok(Some(false)),
+        _ => Ok(None),
     }
 }
 

@@ -19,9 +19,9 @@ returns c =
     let expected = c.args.expected.now in
     let told = map entry_view c.args.played.now.trace.items in
     let outcome = outcome_view c.in-Some.outcome.now in
-    let path = subst (λ trace. IfSome expected.path (λ path. path_of (map entry_view trace) ≡ map string_bytes path.items)) c.deref.ensures.value (c.in_ok-words-2.ensures.0 c.in_default-3.is) in
-    let last = subst (λ payloads. IfOk c.difference_of_payloads.result (λ words. words ≡ None ↔ All (AreAsked (map entry_view c.deref-3.result.now)) payloads)) c.deref-2.ensures.value c.difference_of_payloads.ensures in
-    let last = subst (λ trace. IfOk c.difference_of_payloads.result (λ words. words ≡ None ↔ All (AreAsked (map entry_view trace)) expected.payloads.items)) c.deref-3.ensures.value last in
+    let path = subst (λ trace. IfSome expected.path (λ path. path_of (map entry_view trace) ≡ map string_bytes path.items)) c.deref-2.ensures.value (c.in_ok-words-2.ensures.0 c.in_default-3.is) in
+    let last = subst (λ payloads. IfOk c.difference_of_payloads.result (λ words. words ≡ None ↔ All (AreAsked (map entry_view c.deref-4.result.now)) payloads)) c.deref-3.ensures.value c.difference_of_payloads.ensures in
+    let last = subst (λ trace. IfOk c.difference_of_payloads.result (λ words. words ≡ None ↔ All (AreAsked (map entry_view trace)) expected.payloads.items)) c.deref-4.ensures.value last in
     record {
       passed = whole_told c.difference_of_payloads.result last
           (λ payloads. record { outcome = outcome; ended = ended_so told outcome c.in-Some.ensures; end = c.in_ok-words.ensures.0 c.in_default-2.is; path = path; payloads = payloads })

@@ -48,7 +48,7 @@ returns-in-Some-2-clause-steps c = λ asked.
     let named : slice_get table.names c.args.state ≡ Some name = ap (λ t. slice_get t.names c.args.state) shows.table ∙ is.waits.numbered in
     let turn = subst (λ (es : List code.Entry). IsTurnOf table c.args.state name (answers_under c.next.new.self name) c.item_at-item.result (map entry_view es) c.turn_of-attempt.result.0 c.turn_of-attempt.result.1)
     c.deref-in-Some-2.ensures.value (c.turn_of-attempt.ensures name named) in
-    misfit m shapes (table_view c.args.machine.now) (stage_of (run_view c.args.run.now) (answers_under c.args.answers.now) (map entry_view c.args.trace.now.items)) (answers_under c.next.new.self) c.args.state c.unwrap_or-name.result.now c.in_ok-place.place.items c.item_at-item.result (answer_view c.in-Some.answer)
+    misfit m shapes (table_view c.args.machine.now) (stage_of (run_view c.args.run.now) (answers_under c.args.answers.now) (map entry_view c.args.trace.now.items)) (answers_under c.next.new.self) c.args.state c.unwrap_or-name.result.now c.in_ok-place.place.items c.item_at-item.result c.in-Some.answer
     c.turn_of-attempt.result.0 c.turn_of-attempt.result.1 shows.table is given c.in_ok-answer.ensures.left c.in_ok-answer.ensures.others (sym c.if-fits_task.ensures) turn
 
 pub returns-in-None-clause-steps : goal.returns-in-None-clause-steps

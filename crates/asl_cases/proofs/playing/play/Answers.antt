@@ -14,9 +14,9 @@ use Rattle.asl_cases.proofs.playing.play.Goals as goal
 pub returns-then-fits_input : goal.returns-then-fits_input
 returns-then-fits_input c = IfOk-weaker c.play_run.result _ _ (λ played run. is_run (sym c.if-fits_input.ensures) run) c.play_run.ensures
 
-pub returns : goal.returns
-returns c =
+pub returns-else-fits_input : goal.returns-else-fits_input
+returns-else-fits_input c =
     let shapes = option_map (λ (d : Bor Declared). declared_view d.now) c.args.declared in
     let answers = answers_under c.args.answers.now in
     let given = case_of (scope_in c.args.machine.now) shapes (view c.args.input) answers in
-    subst (λ (es : List code.Entry). ComesTo given c.args.max_steps ends.InputShape (map entry_view es) answers) (sym c.new.ensures.items) (input_misfits (sym c.if-fits_input.ensures) (λ n. refl))
+    subst (λ (es : List code.Entry). ComesTo given c.args.max_steps (ends.InputShape c.args.input) (map entry_view es) answers) (sym c.new.ensures.items) (input_misfits refl (sym c.if-fits_input.ensures) (λ n. refl))

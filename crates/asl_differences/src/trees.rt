@@ -5,14 +5,14 @@ ghost use Rattle.std.specs.Option.{IsSome};
 ghost use Rattle.asl_tree.specs.View.{view, elements_view, entries_view};
 
 use crate::paths::{Step, path_text};
-use crate::words::{expected_found, tree_text};
+use crate::words::{expected_found, found_text};
 use asl_tree::{OutOfMemory, Tree, same};
 use std::alloc::Global;
 use std::collections::BTreeMap;
 
 /// A place where two trees differ.
 #[derive(Drop)]
-pub(crate) struct Difference<'t> {
+pub struct Difference<'t> {
     /// The steps to the place, from the innermost on.
     way: Vec<Step<'t>>,
     /// What stands there in the tree that is expected; none where nothing does.
@@ -37,28 +37,20 @@ impl<'t> Difference<'t> {
         Ok(self)
     }
 
-    /// `at PATH expected X, found Y`.
-    pub(crate) fn words(&self, alloc: Global) -> Result<String, OutOfMemory> {
+    /// `at PATH expected X, found Y`. Refuses only where an allocation was refused.
+    pub fn words(&self, alloc: Global) -> Result<String, OutOfMemory> {
         let path = path_text(alloc, &self.way)?;
-        let expected = text_of(alloc, self.expected)?;
-        let found = text_of(alloc, self.found)?;
+        let expected = found_text(alloc, self.expected)?;
+        let found = found_text(alloc, self.found)?;
         let words = expected_found(alloc, expected, found)?;
         Ok(format!(in alloc; "at {path} {words}")?)
     }
 }
 
-/// The text of a tree, where there is one.
-fn text_of(alloc: Global, tree: Option<&Tree>) -> Result<Option<String>, OutOfMemory> {
-    match tree {
-        Some(tree) => Ok(Some(tree_text(alloc, tree)?)),
-        None => Ok(None),
-    }
-}
-
 /// The first place where the trees differ, in the order of their elements and fields; none exactly where they are
-/// equal. Refused: want of memory.
+/// equal. Refuses only where an allocation was refused.
 #[cycle(first_difference)]
-pub(crate) fn first_difference<'t>(
+pub fn first_difference<'t>(
     alloc: Global,
     expected: &'t Tree,
     found: &'t Tree,

@@ -7,15 +7,15 @@ use std::alloc::Global;
 
 /// Where a text that is no JSON breaks, and why.
 #[derive(Clone, Copy, Drop)]
-pub(crate) struct Break {
+pub struct Break {
     /// The byte at which it breaks, or its end.
-    pub(crate) byte: usize,
-    pub(crate) reason: Reason,
+    pub byte: usize,
+    pub reason: Reason,
 }
 
 /// Why a text is no JSON.
 #[derive(Clone, Copy, Drop)]
-pub(crate) enum Reason {
+pub enum Reason {
     /// Its bytes are no UTF-8.
     NoUtf8,
     /// It can't go on.
@@ -25,7 +25,7 @@ pub(crate) enum Reason {
 }
 
 /// Where a text that is no JSON breaks. Refuses only where an allocation was refused.
-pub(crate) fn break_of(alloc: Global, text: &[u8]) -> Result<Break, OutOfMemory> {
+pub fn break_of(alloc: Global, text: &[u8]) -> Result<Break, OutOfMemory> {
     match str::from_utf8(text) {
         Ok(text) => break_in(alloc, text),
         Err(error) => Ok(Break {
@@ -49,8 +49,9 @@ fn break_in(alloc: Global, text: &str) -> Result<Break, OutOfMemory> {
     }
 }
 
-/// The byte at which the first number begins that isn't a whole one of 64 bits; 0 where there is none.
-pub(crate) fn first_fraction(alloc: Global, text: &[u8]) -> Result<usize, OutOfMemory> {
+/// The byte at which the first number begins that isn't a whole one of 64 bits, by its spelling; 0 where there is none, and
+/// where the text isn't UTF-8. Refuses only where an allocation was refused.
+pub fn first_fraction(alloc: Global, text: &[u8]) -> Result<usize, OutOfMemory> {
     match str::from_utf8(text) {
         Ok(text) => first_number(alloc, text, Odd::NotWhole),
         Err(_) => Ok(0),

@@ -1,4 +1,4 @@
-//! Where a tree differs from another, as a path.
+//! Places in a tree, as paths.
 
 use asl_path::{PathRefusal, parse, print};
 use asl_tree::{OutOfMemory, quoted};

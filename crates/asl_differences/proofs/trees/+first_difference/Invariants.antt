@@ -1,7 +1,7 @@
 use Rattle.std.proofs.Common.{◌≡◌, ◌↔◌, drop}
 use Rattle.std.specs.Slice.Iter.{iter_rest}
 use Rattle.asl_tree.specs.View.{elements_view, entries_view}
-use Rattle.asl_cases.proofs.differing.+first_difference.Given as goal
+use Rattle.asl_differences.proofs.trees.+first_difference.Given as goal
 
 abbrev pub invariant-in_elements-loop-index : goal.invariant-in_elements-loop-index
 invariant-in_elements-loop-index l =
