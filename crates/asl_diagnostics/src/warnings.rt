@@ -1,5 +1,5 @@
 //! Rules of warnings: what is no fault of a machine, and is hardly meant.
-ghost use Rattle.std.specs.Prelude.{◌≡◌};
+ghost use Rattle.std.specs.Prelude.{◌≡◌, codes};
 ghost use Rattle.asl_diagnostics.specs.Rules.{warning_name};
 
 use crate::{Rule, Severity};
@@ -75,6 +75,22 @@ const DEFAULT_NEVER_TAKEN: Rule = Rule {
     full: "By the declared shapes one of the rules is true for all data that comes to this state.",
     help: "Remove the `Default`, or keep it for data that isn't as declared.",
 };
+
+const REPEATED_NAME: Rule = Rule {
+    id: "RepeatedName",
+    severity: Severity::Warning,
+    short: "A name stands again further on in its object.",
+    full: "The object has another member of this name further on. Of members of one name the last counts, so this \
+        one doesn't, with all that stands in it: of two states of one name the first is none.",
+    help: "Remove one of the two, or give it a name of its own.",
+};
+
+/// The rule of a name that stands again in its object.
+pub fn rule_of_repeated_name() -> &'static Rule
+    ensures { result.now.id.now ≡ codes "RepeatedName" }
+{
+    &REPEATED_NAME
+}
 
 /// The rule of a warning.
 pub fn rule_of_warning(warning: Warning) -> &'static Rule

@@ -157,7 +157,14 @@ fn fault_at(
             return Ok(found_in(index, rule, name, said));
         }
     }
-    Ok(Found::at(rule.spot))
+    match refusal {
+        RuleRefusal::NotARule => {
+            let sentence =
+                "A choice rule has `Variable` and one operator, or one of `And`, `Or` and `Not` alone";
+            Ok(Found::said(rule.spot, String::from_str(alloc, sentence)?))
+        }
+        _ => Ok(Found::at(rule.spot)),
+    }
 }
 
 /// What is said of a field of a rule, at its name or at its value.
@@ -186,20 +193,32 @@ fn fault_of_field(
     refusal: RuleRefusal,
 ) -> Result<Option<Told>, OutOfMemory> {
     match (name, value) {
-        ("Next", _) => match refusal {
-            RuleRefusal::NextInside => {
-                let sentence = "A rule within a rule has no `Next`";
-                Ok(Some(Told::Value(String::from_str(alloc, sentence)?)))
-            }
-            _ => Ok(None),
-        },
+        ("Next", _) if is_inside(refusal) => {
+            let sentence = "A rule within a rule has no `Next`";
+            Ok(Some(Told::Value(String::from_str(alloc, sentence)?)))
+        }
         ("And" | "Or", Tree::List(rules)) if rules.is_empty() => {
             Ok(Some(Told::Value(format!(in alloc; "The list of `{name}` is empty")?)))
         }
         ("Variable", Tree::Text(_)) => fault_of_variable(alloc, value),
-        ("And" | "Or" | "Not" | "Variable" | "Comment", _) => Ok(None),
+        ("Next" | "Comment", Tree::Text(_)) | ("And" | "Or", Tree::List(_)) | ("Not", _) => Ok(
+            None,
+        ),
+        ("Next" | "Comment", _) => wanted(alloc, name, "a text"),
+        ("And" | "Or", _) => wanted(alloc, name, "a list of rules"),
+        ("Variable", _) => wanted(alloc, name, "a reference path"),
         _ => fault_of_operator(alloc, name, value),
     }
+}
+
+/// Whether a rule is refused for a `Next` below the top.
+fn is_inside(refusal: RuleRefusal) -> bool {
+    matches!(refusal, RuleRefusal::NextInside)
+}
+
+/// That the value of a field is of another kind than is wanted.
+fn wanted(alloc: Global, name: &str, words: &str) -> Result<Option<Told>, OutOfMemory> {
+    Ok(Some(Told::Value(format!(in alloc; "The value of `{name}` has to be {words}")?)))
 }
 
 /// What is wrong with the path of a rule, if anything is.

@@ -11,7 +11,7 @@ ghost use Rattle.asl_problems.specs.Told.{errors_of, told_by};
 use crate::inferring::judge;
 use crate::reading::{Declaration, Definition, read_declaration, read_definition};
 use asl_machine::Machine;
-use asl_problems::{Problem, add_warnings};
+use asl_problems::{Problem, Which, add_repeats, add_warnings};
 use asl_records::{Declared, NumberedCertificate};
 use asl_tree::OutOfMemory;
 use std::alloc::Global;
@@ -51,7 +51,25 @@ pub(crate) fn problems_of_texts(
 {
     let found = find(alloc, definition, declared, max_rounds)?;
     let problems = with_warnings(alloc, found)?;
-    Ok(problems)
+    let all = with_repeats(alloc, problems, definition, declared)?;
+    Ok(all)
+}
+
+/// The problems, and behind them the names that stand again in their object.
+fn with_repeats(
+    alloc: Global,
+    problems: Vec<Problem>,
+    definition: &[u8],
+    declared: Option<&[u8]>,
+) -> Result<Vec<Problem>, OutOfMemory>
+    ensures { IfOk result (λ all. errors_of all.items ≡ errors_of problems.items) }
+{
+    let mut all = problems;
+    add_repeats(alloc, &mut all, Which::Definition, definition)?;
+    if let Some(declared) = declared {
+        add_repeats(alloc, &mut all, Which::Declared, declared)?;
+    }
+    Ok(all)
 }
 
 /// What is wrong, and behind it what is hardly meant.

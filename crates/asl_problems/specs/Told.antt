@@ -1,5 +1,5 @@
 -- What is told, without its place and its sentence.
-use Rattle.std.specs.Prelude.{◌≡◌, List, [], ◌∷◌, map, Bool, true, false, Option, Some, None, option_map, codes, string_bytes}
+use Rattle.std.specs.Prelude.{List, [], ◌∷◌, map, Bool, true, false, Option, Some, None, option_map, codes, string_bytes}
 use Rattle.std.specs.List.{filter, list_any}
 use Rattle.asl_model.specs.Finding.{Finding}
 use Rattle.asl_model.specs.Names.{Bytes}

@@ -2,7 +2,7 @@
 //!
 //! A [`Problem`] is one thing that is wrong or odd, before it has a place. [`problems_of_value`] has the complaints of a
 //! definition, [`problems_of_declared`] those of declared shapes, [`problems_of_findings`] the broken rules of a machine,
-//! [`add_warnings`] what is odd in one. [`diagnostics_of`] gives problems their places in the texts, and their messages.
+//! [`add_warnings`] what is odd in one, [`add_repeats`] the names in a text that stand again in their object. [`diagnostics_of`] gives problems their places in the texts, and their messages.
 #![tactic(auto)]
 
 mod complaint_places;
@@ -16,6 +16,7 @@ mod groups;
 mod messages;
 mod nested;
 mod problems;
+mod repeats;
 mod scopes;
 mod sources;
 mod telling;
@@ -25,5 +26,6 @@ pub use complaints::{problems_of_declared, problems_of_value};
 pub use files::File;
 pub use findings::problems_of_findings;
 pub use problems::{Problem, Which};
+pub use repeats::add_repeats;
 pub use telling::diagnostics_of;
 pub use warnings::add_warnings;

@@ -52,6 +52,12 @@ fn message_of(
             Ok(format!(in alloc; "{} may name nothing", path.text)?)
         }
         Kind::Odd { sentence, .. } => Ok(sentence.clone()?),
+        Kind::Repeated { .. } => about_string(
+            alloc,
+            problem.rule,
+            text_from(text, offset),
+            "stands again further on in this object, where alone it counts",
+        ),
         Kind::NotWhole | Kind::NotSettled | Kind::Record(_) | Kind::Finding(_, _) => {
             general(alloc, problem.rule)
         }

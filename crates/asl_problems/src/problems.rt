@@ -41,6 +41,11 @@ pub(crate) enum Kind {
         index: Option<usize>,
         sentence: String,
     },
+    /// The name at that byte stands again further on in its object.
+    Repeated {
+        which: Which,
+        byte: usize,
+    },
 }
 
 /// What is wrong, or hardly meant.
@@ -72,7 +77,7 @@ impl Problem {
     /// The text in which it stands.
     pub(crate) fn which(&self) -> Which {
         match &self.kind {
-            Kind::NotJson(which) => *which,
+            Kind::NotJson(which) | Kind::Repeated { which, .. } => *which,
             Kind::NotWhole | Kind::Record(_) | Kind::Finding(FindingFault::TaskUnknown, _) => {
                 Which::Declared
             }

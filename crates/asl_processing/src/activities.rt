@@ -1,6 +1,6 @@
 //! Executions of states, with how often their retriers have retried.
 
-ghost use Rattle.std.specs.Prelude.{◌≡◌, IfErr, IfOk};
+ghost use Rattle.std.specs.Prelude.{◌≡◌, ◌≤◌, IfErr, IfOk, length};
 ghost use Rattle.asl_processing.specs.Activities.{Begins, IsRaised, IsSame};
 ghost use Rattle.asl_processing.specs.Troubles.{CanRise};
 
@@ -36,11 +36,12 @@ impl Visit {
 
     /// Raises the count of the retrier of that number by one, where it can rise.
     ///
-    /// Refused: want of memory, which leaves the execution as it is.
+    /// Refused: want of memory, only where that count isn't written. It leaves the execution as it is.
     pub fn raise(&mut self, retrier: usize) -> Result<(), OutOfMemory>
         requires { CanRise self.old.counts.items retrier }
         ensures raised { IfOk result (λ _. IsRaised retrier self.old self.new) }
         ensures unchanged { IfErr result (λ _. IsSame self.old self.new) }
+        ensures unwritten { IfErr result (λ _. length self.old.counts.items ≤ retrier) }
     {
         one_higher(&mut self.counts, retrier)
     }

@@ -1,6 +1,6 @@
 //! What comes of an error in a state (States Language, "Retrying after error", "Fallback States").
 
-ghost use Rattle.std.specs.Prelude.{◌≡◌, ◌<◌, ◌+◌, ◌^◌, ℕ, List, Ok, IfOk, IfErr, IfSome, Some, map, string_bytes, option_map};
+ghost use Rattle.std.specs.Prelude.{◌≡◌, ◌<◌, ◌≤◌, ◌+◌, ◌^◌, ℕ, List, length, Ok, IfOk, IfErr, IfSome, Some, map, string_bytes, option_map};
 ghost use Rattle.asl_states.specs.Machine.{catcher_view, retrier_view, settings_view, target_name};
 ghost use Rattle.asl_model.specs.Run as model;
 ghost use Rattle.asl_processing.specs.Data.{datum_view};
@@ -199,13 +199,15 @@ fn error_output(alloc: Global, error: &str, cause: &str) -> Result<Tree, OutOfMe
     Ok(Tree::Object(fields))
 }
 
-/// Raises the count of the retrier of that number by one. A refusal leaves the counts as they are.
+/// Raises the count of the retrier of that number by one. A refusal, which is out of memory and comes only where that count
+/// isn't written, leaves the counts as they are.
 #[tactic(auto, using(crate::proofs::Counts::count_within, crate::proofs::Counts::raised_within))]
 pub(crate) fn one_higher(counts: &mut Vec<u64>, retrier: usize) -> Result<(), OutOfMemory>
     requires { CanRise counts.old.items retrier }
     ensures raised { IfOk result
         (λ _. counts.new.items ≡ model.one_higher retrier counts.old.items) }
     ensures unchanged { IfErr result (λ _. counts.new.items ≡ counts.old.items) }
+    ensures unwritten { IfErr result (λ _. length counts.old.items ≤ retrier) }
 {
     reach(counts, retrier)?;
     counts[retrier] += 1;
@@ -218,6 +220,7 @@ fn reach(counts: &mut Vec<u64>, retrier: usize) -> Result<(), OutOfMemory>
     requires { retrier + 1 < 2 ^ 64 }
     ensures reached { IfOk result (λ _. Reaches retrier counts.old.items counts.new.items) }
     ensures unchanged { IfErr result (λ _. counts.new.items ≡ counts.old.items) }
+    ensures unwritten { IfErr result (λ _. length counts.old.items ≤ retrier) }
 {
     if retrier < counts.len() {
         return Ok(());
