@@ -1,6 +1,6 @@
 //! Rules of texts that are refused as definitions, or as JSON.
 ghost use Rattle.std.specs.Prelude.{◌≡◌, [], option_map};
-ghost use Rattle.asl_machine.specs.View.{def_fault_view};
+ghost use Rattle.asl_fields.specs.View.{def_fault_view};
 ghost use Rattle.asl_model.specs.Printed.{definition_fault_name, refusal_line, refusal_text};
 ghost use Rattle.asl_model.specs.Texts.{Which};
 ghost use Rattle.asl_diagnostics.specs.Rules.{text_fault};

@@ -1,15 +1,12 @@
 -- What checks and readings answer one after another.
-use Rattle.std.proofs.Common.{◌≡◌, zero, suc, List, [], ◌∷◌, ◌++◌, map, Option, Some, None, option_map, Result, Ok, Err, refl, sym, ap, ◌∙◌, subst, arith, ◌⊎◌, inl, inr}
+use Rattle.std.proofs.Common.{◌≡◌, List, [], ◌∷◌, ◌++◌, map, Option, Some, None, Result, Ok, Err, refl, sym, ap, ◌∙◌, subst, ◌⊎◌, inl, inr}
 use Rattle.std.specs.Prelude.{IfOk, IfErr, OnOk}
 use Rattle.std.specs.Result.{IsErrAnd}
 use Rattle.std.specs.List.{Contains}
 use Rattle.std.proofs.lemmas.Result.{err_from_is_err_and}
-use Rattle.std.proofs.lemmas.List.Elements.{Contains-append_left, Contains-append_right, Contains-append_cases}
-use Rattle.asl_machine.specs.Definition.{IsAmong, IsAnswer}
-
-pub among_first : {F : Type 0} (xs ys : List F) (o : Option F) → IsAmong xs o → IsAmong (xs ++ ys) o
-among_first xs ys None h = tt
-among_first xs ys (Some f) h = Contains-append_left xs ys f h
+use Rattle.std.proofs.lemmas.List.Elements.{Contains-append_right, Contains-append_cases}
+use Rattle.asl_fields.specs.Verdicts.{IsAmong, IsAnswer}
+pub use Rattle.asl_fields.proofs.Checks.{among_first, handed_on, left_after, told_first, told_of_left}
 
 pub among_second : {F : Type 0} (xs ys : List F) (o : Option F) → IsAmong ys o → IsAmong (xs ++ ys) o
 among_second xs ys None h = tt
@@ -24,25 +21,7 @@ among_either xs ys zs (Some f) h first second = by (Contains-append_cases xs ys 
     by (inl g) = first g
     by (inr g) = second g
 
-mapped : {F G : Type 0} (f : F → G) (a : F) (xs : List F) → Contains xs a → Contains (map f xs) (f a)
-mapped f a [] (i, within, is) = absurd (omega (arith, within))
-mapped f a (x ∷ xs) (zero, within, is) = (0, omega arith, ap f is)
-mapped f a (x ∷ xs) (suc i, within, is) = let there = mapped f a xs (i, omega (arith, within), is) in (suc there.0, omega (arith, there.1), there.2)
-
--- what stands in a list stands in the list as it is mapped
-pub among_mapped : {F G : Type 0} (f : F → G) (xs : List F) (o : Option F) (told : Option G) → IsAmong xs o → told ≡ option_map f o → IsAmong (map f xs) told
-among_mapped f xs None told h e = subst (λ t. IsAmong (map f xs) t) (sym e) tt
-among_mapped f xs (Some a) told h e = subst (λ t. IsAmong (map f xs) t) (sym e) (mapped f a xs h)
-
--- what is told of the first of two lists is told of both
-pub told_first : {A B E F : Type 0} {shown : E → Option F} (xs ys : List F) (e : E) → IsAnswer {A = A} shown xs (Err e) → IsAnswer {A = B} shown (xs ++ ys) (Err e)
-told_first {shown = shown} xs ys e h = record { holds = among_first xs ys (shown e) h.holds }
-
--- what was told is handed on
-pub handed_on : {B E F : Type 0} {shown : E → Option F} (wrong : List F) (r : Result B E) (e : E) → IsErrAnd r (λ y. y ≡ e) → IsAnswer {A = B} shown wrong (Err e) → IsAnswer shown wrong r
-handed_on wrong r e h told = let p = err_from_is_err_and r h in rw (p.1, p.2) told
-
--- so of any error
+-- what holds of any error that was returned holds of the answer
 pub handed_error : {B E : Type 0} (r : Result B E) (e : E) (P : E → Type 0) → IsErrAnd r (λ y. y ≡ e) → P e → IfErr r P
 handed_error r e P h told = let p = err_from_is_err_and r h in rw (p.1, p.2) told
 
@@ -72,13 +51,6 @@ told_but_memory wrong (Err e) g h = told_without_memory wrong e h
 pub told_next : {A B E F : Type 0} {shown : E → Option F} (xs ys : List F) (result : Result B E) {read : A} → IsAnswer shown xs (Ok read) → IsAnswer shown ys result → IsAnswer shown (xs ++ ys) result
 told_next xs ys (Ok last) g h = record { holds = ap (λ zs. zs ++ ys) g.holds ∙ h.holds }
 told_next {shown = shown} xs ys (Err e) g h = record { holds = among_second xs ys (shown e) h.holds }
-
--- an answer for the first part of what is left
-pub left_after : {A E F : Type 0} {shown : E → Option F} (wrong head rest : List F) {read : A} → wrong ≡ head ++ rest → IsAnswer shown head (Ok read) → wrong ≡ rest
-left_after wrong head rest all none = all ∙ ap (λ xs. xs ++ rest) none.holds
-
-pub told_of_left : {A B E F : Type 0} {shown : E → Option F} (wrong head rest : List F) (e : E) → wrong ≡ head ++ rest → IsAnswer {A = A} shown head (Err e) → IsAnswer {A = B} shown wrong (Err e)
-told_of_left {B = B} {shown = shown} wrong head rest e all h = subst (λ xs. IsAnswer {A = B} shown xs (Err e)) (sym all) (told_first head rest e h)
 
 -- where both together are empty each of them is
 pub first_none : {A : Type 0} (xs ys : List A) → xs ++ ys ≡ [] → xs ≡ []

@@ -4,11 +4,12 @@ use Rattle.std.proofs.lemmas.List.{length-map}
 use Rattle.serde_json.specs.Data.{Data}
 use Rattle.asl_model.specs.DefinitionTable.{machine_rows}
 use Rattle.asl_model.specs.StandsFor.{all_names, complaints, duplicate_complaints, no_object_complaints, number_complaints, place_of_state, scope_complaints, scope_of}
-use Rattle.asl_machine.specs.declared.places.Complaint.{Complaint as Objection}
-use Rattle.asl_machine.specs.declared.telling.Telling.{Telling}
-use Rattle.asl_machine.specs.Definition.{complaint_view}
+use Rattle.asl_fields.specs.declared.places.Complaint.{Complaint as Objection}
+use Rattle.asl_machine.specs.declared.scope_telling.Telling.{Telling}
+use Rattle.asl_fields.specs.Verdicts.{complaint_view}
 use Rattle.asl_machine.specs.Reading.{definition_told}
-use Rattle.asl_machine.specs.Telling.{Told, Walks, count_told, texts}
+use Rattle.asl_fields.specs.Telling.{Told}
+use Rattle.asl_machine.specs.Telling.{Walks, count_told, texts}
 use Rattle.asl_machine.proofs.Told.{tells_as, tells_then}
 
 -- the complaints of a walk, then those of the names that it gathered

@@ -6,7 +6,7 @@ use Rattle.asl_model.specs.DefinitionTable.{DuplicateName}
 use Rattle.asl_model.specs.ShapeSpelling.{is_among}
 use Rattle.asl_model.specs.StandsFor.{Complaint, duplicate_complaints}
 use Rattle.asl_model.proofs.ShapeWitness.{bytes_eq-comm}
-use Rattle.asl_machine.specs.View.{complaint_of}
+use Rattle.asl_fields.specs.View.{complaint_of}
 use Rattle.asl_machine.proofs.Contained.{here, further}
 
 -- the name is told as standing twice

@@ -10,15 +10,7 @@ use Rattle.serde_json.specs.Data.{Data, Members}
 use Rattle.serde_json.specs.Find.{get, get_member}
 use Rattle.asl_model.specs.ShapeSpelling.{is_among}
 use Rattle.asl_model.specs.StandsFor.{members_in, names_of, state_names, characters}
-
--- a field of a value is one of its members
-pub got_among : (field : List ℕ) (v : Data) → get field v ≡ get_member field (members_in v)
-got_among field json.null = refl
-got_among field (json.boolean b) = refl
-got_among field (json.number n) = refl
-got_among field (json.string s) = refl
-got_among field (json.array vs) = refl
-got_among field (json.object ms) = refl
+use Rattle.asl_fields.proofs.Objects.{got_among}
 
 -- ---- names
 

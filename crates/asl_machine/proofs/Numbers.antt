@@ -14,11 +14,11 @@ use Rattle.asl_model.proofs.ShapeWitness.{bytes_eq-comm}
 use Rattle.asl_machine.specs.declared.building.BuiltState.{BuiltState}
 use Rattle.asl_machine.specs.declared.building.Home.{Home}
 use Rattle.asl_machine.specs.declared.numbering.Numbered.{Numbered}
-use Rattle.asl_machine.specs.Definition.{IsAmong}
+use Rattle.asl_fields.specs.Verdicts.{IsAmong}
 use Rattle.asl_states.specs.Machine.{state_view}
 use Rattle.asl_machine.specs.Numbered.{Holds, home_view, home_of, names_of_all, placed_in}
 use Rattle.asl_machine.specs.Built.{built_view}
-use Rattle.asl_machine.specs.View.{complaint_of}
+use Rattle.asl_fields.specs.View.{complaint_of}
 use Rattle.asl_machine.proofs.Contained.{here}
 use Rattle.asl_machine.proofs.Duplicates.{none_again, told_again, twice}
 use Rattle.asl_machine.proofs.Checks.{among_second}

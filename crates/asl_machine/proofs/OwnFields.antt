@@ -10,8 +10,9 @@ use Rattle.serde_json.specs.Find.{get_member}
 use Rattle.asl_model.specs.DefinitionTable as model
 use Rattle.asl_model.specs.ShapeSpelling.{is_among}
 use Rattle.asl_model.specs.StandsFor.{Complaint, Place, complaint_at, row_faults, rows_complaints, foreign_complaints, fields_complaints, has_row}
-use Rattle.asl_machine.specs.Definition.{IsAmong}
-use Rattle.asl_machine.specs.Reading.{is_read, checked_complaints, given_faults, read_complaints, told_at, parameters_told, processing_told, kind_told, rules_told}
+use Rattle.asl_fields.specs.Verdicts.{IsAmong}
+use Rattle.asl_fields.specs.Reading.{is_read, checked_complaints, given_faults, told_at, rules_told}
+use Rattle.asl_machine.specs.Reading.{read_complaints, parameters_told, processing_told, kind_told}
 use Rattle.asl_machine.proofs.Checks.{among_first, among_second, among_either}
 
 -- ---- all rows

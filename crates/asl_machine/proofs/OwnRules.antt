@@ -5,9 +5,10 @@ use Rattle.serde_json.specs.Data.{Members}
 use Rattle.serde_json.specs.Find.{get_member}
 use Rattle.asl_model.specs.DefinitionTable as model
 use Rattle.asl_model.specs.StandsFor.{Complaint, place_of_state, place_within, items_in, text_at, rows_complaints, foreign_complaints, fields_complaints, type_complaints, trouble_complaints, retriers_complaints, catchers_complaints, next_complaints, heartbeat_complaints, processor_complaints, selector_complaints, target_complaints}
-use Rattle.asl_machine.specs.declared.places.Complaint.{Complaint as Objection}
-use Rattle.asl_machine.specs.Definition.{IsAmong, IsVerdict, complaint_view}
-use Rattle.asl_machine.specs.Reading.{checked_complaints, parameters_told, processing_told, kind_told, rules_of_type, rule_targets, state_told}
+use Rattle.asl_fields.specs.declared.places.Complaint.{Complaint as Objection}
+use Rattle.asl_fields.specs.Verdicts.{IsAmong, IsVerdict, complaint_view}
+use Rattle.asl_fields.specs.Reading.{checked_complaints}
+use Rattle.asl_machine.specs.Reading.{parameters_told, processing_told, kind_told, rules_of_type, rule_targets, state_told}
 use Rattle.asl_machine.proofs.Checks.{among_first, among_second, among_either, first_none, second_none}
 use Rattle.asl_machine.proofs.OwnFields.{absent, rows_in_order, read_told, fields_told, own_read}
 

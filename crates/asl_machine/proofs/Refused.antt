@@ -6,7 +6,7 @@ use Rattle.asl_model.specs.Numbering.{IsWellNamed, Standing, Table, standing_in,
 use Rattle.asl_model.specs.StandsFor.{Complaint, StandsFor, scope_of, all_names, complaints, no_object_complaints, scope_complaints, duplicate_complaints, number_complaints, place_of_state}
 use Rattle.asl_model.proofs.Numbering.{names_of_standing, outlined_names}
 use Rattle.asl_model.proofs.WellNamed.{well_named}
-use Rattle.asl_machine.specs.Definition.{IsAmong}
+use Rattle.asl_fields.specs.Verdicts.{IsAmong}
 use Rattle.asl_machine.specs.Numbered.{names_of_all}
 use Rattle.asl_machine.specs.Refusal.{IsRefused, without_memory, for_broken_rule}
 use Rattle.asl_machine_table.specs.Rebuilding.{machine_of}

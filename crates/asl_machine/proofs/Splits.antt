@@ -1,7 +1,6 @@
 -- What is told of the fields of objects and of the elements of lists, one after another.
-use Rattle.std.proofs.Common.{◌≡◌, ℕ, ◌+◌, ◌<◌, List, [], ◌∷◌, ◌++◌, length, map, drop, get_or, append-nil, Option, Some, None, is_some, option_and_then, Bool, true, false, if◌then◌else◌, codes, refl, sym, ap, ◌∙◌}
+use Rattle.std.proofs.Common.{◌≡◌, ℕ, ◌+◌, ◌<◌, List, [], ◌∷◌, ◌++◌, length, drop, get_or, append-nil, Option, Some, None, is_some, option_and_then, true, false, codes, refl, sym, ap, ◌∙◌}
 use Rattle.std.specs.List.{cons_option}
-use Rattle.std.proofs.lemmas.List.{map-append}
 use Rattle.serde_json.specs.Data as json
 use Rattle.serde_json.specs.Data.{Data}
 use Rattle.serde_json.specs.Find.{as_object}
@@ -11,20 +10,10 @@ use Rattle.asl_model.specs.DefinitionTable as model
 use Rattle.asl_model.specs.Json.{tree_of}
 use Rattle.asl_model.specs.RuleSpelling.{rule_of}
 use Rattle.asl_model.specs.Test.{Rule}
-use Rattle.asl_model.specs.StandsFor.{Complaint, Place, members_in, complaint_at, fields_complaints, element_complaints, target_complaints, rules_complaints}
-use Rattle.asl_machine.specs.Reading.{rules_among}
+use Rattle.asl_model.specs.StandsFor.{Place, members_in, complaint_at, fields_complaints, element_complaints, target_complaints, rules_complaints}
+use Rattle.asl_fields.specs.Reading.{rules_among}
 use Rattle.asl_machine.specs.Telling.{rule_spelled}
 use Rattle.asl_machine.proofs.Values.{items_parts}
-
--- the elements left are the first of them and those behind it
-pub elements_split : (f : model.DefFault → Complaint) (of : Data → List model.DefFault) (vs : List Value) (i : ℕ) (x : Value) → i < length vs → x ≡ get_or vs i x
-    → map f (model.wrong_with_each of (items_view (drop i vs))) ≡ map f (of (view x)) ++ map f (model.wrong_with_each of (items_view (drop (i + 1) vs)))
-elements_split f of vs i x h e =
-    items_parts (λ left. map f (model.wrong_with_each of left)) _ vs i x h e refl ∙ map-append f (of (view x)) (model.wrong_with_each of (items_view (drop (i + 1) vs)))
-
-by_row : (b : Bool) (c : Complaint) (rest : List Complaint) → (if b then rest else c ∷ rest) ≡ (if b then [] else c ∷ []) ++ rest
-by_row true c rest = refl
-by_row false c rest = refl
 
 by_rule : (place : Place) (names : List (List ℕ)) (o : Option Rule) (rest : List Rule) → rules_complaints place names (cons_option o rest) ≡ rules_complaints place names (cons_option o []) ++ rules_complaints place names rest
 by_rule place names None rest = refl

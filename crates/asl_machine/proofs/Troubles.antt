@@ -8,9 +8,10 @@ use Rattle.serde_json.specs.View.{view, items_view}
 use Rattle.serde_json.specs.declared.value.Value.{Value}
 use Rattle.asl_model.specs.DefinitionTable.{retrier_rows, catcher_rows, BadErrorEquals, PathOrNullValue}
 use Rattle.asl_model.specs.StandsFor.{Complaint, Place, members_in, text_at, is_last_before, has_proper_names, complain_unless, target_complaints, element_complaints, fields_complaints, rows_complaints, foreign_complaints, retriers_complaints, catchers_complaints}
-use Rattle.asl_machine.specs.declared.places.Complaint.{Complaint as Objection}
-use Rattle.asl_machine.specs.Definition.{IsVerdict, complaint_view}
-use Rattle.asl_machine.specs.Reading.{checked_complaints, element_checked, told_at}
+use Rattle.asl_fields.specs.declared.places.Complaint.{Complaint as Objection}
+use Rattle.asl_fields.specs.Verdicts.{IsVerdict, complaint_view}
+use Rattle.asl_fields.specs.Reading.{checked_complaints, told_at}
+use Rattle.asl_machine.specs.Reading.{element_checked}
 use Rattle.asl_machine.proofs.Checks.{among_first, among_second, among_either, first_none, second_none}
 use Rattle.asl_machine.proofs.OwnFields.{fields_told, read_told, rows_in_order}
 use Rattle.asl_machine.proofs.Values.{items_parts}

@@ -10,9 +10,9 @@ use Rattle.asl_model.specs.Numbering.{Standing, outlined, standing_among, standi
 use Rattle.asl_model.specs.StandsFor.{state_by, branches_under, processor_under}
 use Rattle.asl_machine.specs.declared.building.BuiltState.{BuiltState}
 use Rattle.asl_machine.specs.declared.building.Home.{Home}
-use Rattle.asl_machine.specs.declared.rows.StateType.{StateType}
-use Rattle.asl_machine.specs.Reading.{fields_of}
-use Rattle.asl_machine.specs.Rows.{type_view}
+use Rattle.asl_fields.specs.declared.rows.StateType.{StateType}
+use Rattle.asl_fields.specs.Reading.{fields_of}
+use Rattle.asl_fields.specs.Rows.{type_view}
 use Rattle.asl_states.specs.Machine.{state_view}
 
 -- the name of a state and the number of a branch

@@ -1,115 +1,42 @@
--- What is wrong with the fields of an object that are read, with the others, which are only checked, and with a state
--- apart from these. No public clause cites this module.
+-- What is wrong with the fields of an object that are read, and with a state apart from these. No public clause cites this
+-- module.
 use Rattle.std.specs.Prelude.{◌≡◌, ℕ, List, [], ◌∷◌, ◌++◌, map, length, Bool, true, false, is_some, not}
 use Rattle.std.specs.Prelude.{◌&&◌, ◌||◌, ◌==◌, if◌then◌else◌, Option, Some, None, option_map, option_and_then, codes}
-use Rattle.std.specs.List.{filter_map}
 use Rattle.std.specs.Option.{unwrap_or}
-use Rattle.serde_json.specs.Data.{Data, Items, Members}
+use Rattle.serde_json.specs.Data.{Data, Members}
 use Rattle.serde_json.specs.Find.{get_member, as_object, as_bool}
-use Rattle.serde_json.specs.View.{view}
 use Rattle.serde_json.specs.declared.value.Value.{Value}
 use Rattle.asl_model.specs.DefinitionTable as model
 use Rattle.asl_model.specs.DefinitionTable.{machine_rows, branch_rows, every_state_rows, retrier_rows, catcher_rows, rows_of}
-use Rattle.asl_model.specs.Json.{tree_of}
-use Rattle.asl_model.specs.RuleSpelling.{rule_of}
 use Rattle.asl_model.specs.ShapeSpelling.{is_among}
-use Rattle.asl_model.specs.Test.{Rule}
 use Rattle.asl_model.specs.StandsFor as complaints
-use Rattle.asl_model.specs.StandsFor.{Complaint, Place, place_of_state, place_within, complaint_at, row_faults}
-use Rattle.asl_model.specs.StandsFor.{members_in, state_names, listed}
+use Rattle.asl_model.specs.StandsFor.{Complaint, Place, place_of_state, place_within, complaint_at, one_of_complaints, last_of}
+use Rattle.asl_model.specs.StandsFor.{members_in, state_names}
 use Rattle.asl_model.specs.StandsFor.{rows_complaints, foreign_complaints, text_at, rules_of}
 use Rattle.asl_model.specs.StandsFor.{next_complaints, target_complaints, heartbeat_complaints}
 use Rattle.asl_model.specs.StandsFor.{wait_complaints, processor_complaints, selector_complaints}
 use Rattle.asl_model.specs.StandsFor.{rules_complaints, trouble_complaints}
+use Rattle.asl_fields.specs.Reading.{fields_of, checked_complaints, given_faults, is_read, told_at, rules_told}
 
 -- ---- what the values of a definition are
-
--- the fields of a value, none where it is no object
-abbrev pub fields_of : Value → Members
-fields_of v = members_in (view v)
 
 -- the names of the states of a scope
 abbrev pub names_in : Value → List (List ℕ)
 names_in scope = state_names (fields_of scope)
 
--- the text of a field, and a default where there is none
-abbrev pub text_or : List ℕ → List ℕ → Value → List ℕ
-text_or default field v = unwrap_or (text_at field (fields_of v)) default
-
--- the empty text where there is none
-abbrev pub text_or_none : List ℕ → Value → List ℕ
-text_or_none field v = text_or [] field v
-
--- the rules that elements spell
-abbrev pub rules_among : Items → List Rule
-rules_among vs = filter_map (λ v. option_and_then rule_of (tree_of v)) (listed vs)
-
--- what is wrong with elements as rules
-abbrev pub wrong_rules : Items → List model.DefFault
-wrong_rules vs = model.wrong_with_each (λ v. model.rule_misfits (tree_of v)) vs
-
 -- `End` is true
 abbrev pub ends_at : Members → Bool
 ends_at ms = complaints.ends (option_and_then as_bool (get_member (codes "End") ms))
 
--- a value of that kind is read where it stands: a path, a template, a list of rules
-abbrev pub is_read : model.Wanted → Bool
-is_read model.TextValue = false
-is_read model.PositiveValue = false
-is_read model.CountValue = false
-is_read model.NumberValue = false
-is_read model.TruthValue = false
-is_read model.LanguageValue = false
-is_read model.PathValue = true
-is_read model.PathOrNullValue = true
-is_read model.TemplateValue = true
-is_read model.ItemTemplateValue = true
-is_read model.AnyValue = false
-is_read model.ConfigValue = false
-is_read model.StatesValue = false
-is_read model.ScopeValue = false
-is_read model.ScopesValue = false
-is_read model.RulesValue = true
-is_read model.NamesValue = false
-is_read model.RetriersValue = false
-is_read model.CatchersValue = false
-
--- what is wrong with a value, where it isn't read
-abbrev pub misfits_unread : model.Wanted → Data → List model.DefFault
-misfits_unread wanted v = if is_read wanted then [] else model.misfits wanted v
-
 -- ---- the fields of an object
 
--- what is wrong with the field of a row that isn't read
-abbrev pub checked_faults : model.Row → Option Data → List model.DefFault
-checked_faults row o = if is_read row.wanted then [] else row_faults row o
-
--- with all of these
-abbrev pub checked_complaints : Place → List model.Row → Members → List Complaint
-checked_complaints place [] ms = []
-checked_complaints place (row ∷ rows) ms =
-    map (complaint_at place row.field) (checked_faults row (get_member row.field ms)) ++ checked_complaints place rows ms
-
--- what is wrong with the fields of an object, but for what is read
-abbrev pub fields_told : Place → List model.Row → Members → List Complaint
-fields_told place rows ms = checked_complaints place rows ms ++ foreign_complaints place rows ms
-
--- what is wrong with the value of a field, or with its absence where it is required
-abbrev pub given_faults : Bool → model.Wanted → Option Data → List model.DefFault
-given_faults required wanted None = if required then model.MissingField ∷ [] else []
-given_faults required wanted (Some v) = model.misfits wanted v
-
--- so of the fields that are read
+-- what is wrong with the fields that are read
 abbrev pub read_complaints : Place → List model.Row → Members → List Complaint
 read_complaints place [] ms = []
 read_complaints place (row ∷ rows) ms =
     map (complaint_at place row.field)
     (if is_read row.wanted then given_faults row.required row.wanted (get_member row.field ms) else [])
     ++ read_complaints place rows ms
-
--- what is told of a field that may be absent
-abbrev pub told_at : Place → List ℕ → model.Wanted → Members → List Complaint
-told_at place field wanted ms = map (complaint_at place field) (given_faults false wanted (get_member field ms))
 
 -- what is wrong with an element of a list that should be an object of those fields, but for what is read
 abbrev pub element_checked : Place → List ℕ → List model.Row → Data → List Complaint
@@ -152,10 +79,6 @@ caught_checked place names is_last v =
 pub record AreChecked (rows : List model.Row) : Type 0 where
   pub same : (place : Place) (ms : Members) → checked_complaints place rows ms ≡ rows_complaints place rows ms
 
--- a template, in which paths to a Map's item may be allowed
-abbrev pub template_wanted : Bool → model.Wanted
-template_wanted item = if item then model.ItemTemplateValue else model.TemplateValue
-
 -- ---- the fields of a state that are read
 
 -- the parameters of a state, those of a Map aside
@@ -176,11 +99,6 @@ processing_told place ms =
     ++ (told_at place (codes "ResultPath") model.PathOrNullValue ms
     ++ (told_at place (codes "InputPath") model.PathOrNullValue ms
     ++ told_at place (codes "OutputPath") model.PathOrNullValue ms))
-
--- the rules of a Choice
-abbrev pub rules_told : Place → Members → List Complaint
-rules_told place ms =
-    map (complaint_at place (codes "Choices")) (given_faults true model.RulesValue (get_member (codes "Choices") ms))
 
 -- with where they go on to
 abbrev pub choices_told : Place → List (List ℕ) → Members → List Complaint
@@ -213,6 +131,13 @@ kind_told model.ParallelState place ms = []
 kind_told model.MapState place ms = map_told place ms
 
 -- ---- the rules on several fields
+
+-- exactly one of some fields, of which the last that was found is given, and whether it wasn't the first; the others
+-- are left
+abbrev pub one_of_left : Place → List ℕ → Option (List ℕ) → Bool → List (List ℕ) → List Complaint
+one_of_left place first None several ns = one_of_complaints place first ns
+one_of_left place first (Some n) true ns = complaint_at place (last_of n ns) model.WrongKind ∷ []
+one_of_left place first (Some n) false ns = one_of_complaints place first (n ∷ ns)
 
 -- whether a state goes on in one way
 abbrev pub goes_on_told : Place → Members → List Complaint

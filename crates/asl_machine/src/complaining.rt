@@ -3,16 +3,14 @@
 ghost use Rattle.std.specs.Prelude.{◌≡◌, IfOk, Some, map};
 ghost use Rattle.serde_json.specs.View.{view};
 ghost use Rattle.asl_model.specs.StandsFor as model;
-ghost use Rattle.asl_machine.specs.Definition.{IsVerdict, complaint_view};
+ghost use Rattle.asl_fields.specs.Verdicts.{IsVerdict, complaint_view};
 ghost use Rattle.asl_machine.specs.Telling.{count_told};
-ghost use Rattle.asl_machine.specs.View.{refusal_view};
+ghost use Rattle.asl_fields.specs.View.{refusal_view};
 
 use crate::numbering::MOST_STATES;
-use crate::places::{Complaint, Place};
-use crate::refusals::{DefFault, DefRefusal};
 use crate::repeating::tell_repeated;
-use crate::scope_telling::tell_definition;
-use crate::telling::{Telling, tell_found};
+use crate::scope_telling::{Telling, tell_definition};
+use asl_fields::{Complaint, DefFault, DefRefusal, Place, tell_found};
 use asl_tree::OutOfMemory;
 use serde_json::Value;
 use std::alloc::Global;

@@ -8,20 +8,19 @@ ghost use Rattle.asl_model.specs.Numbering.{kind_outline, scopes_outline};
 ghost use Rattle.asl_model.specs.StandsFor.{type_of as model_type_of, text_at, path_at, rules_of, delay_of, selector_of, branches_under, processor_under};
 ghost use Rattle.asl_template.specs.View as templates;
 ghost use Rattle.asl_states.specs.Machine.{choice_rule_view, delay_view, kind_view};
-ghost use Rattle.asl_machine.specs.Definition.{IsVerdict, place_view};
-ghost use Rattle.asl_machine.specs.Reading.{parameters_told, delay_told, selector_told, fields_of, names_in, text_or_none, choices_told, map_told, kind_told_with_targets};
-ghost use Rattle.asl_machine.specs.Rows.{type_view};
+ghost use Rattle.asl_fields.specs.Verdicts.{IsVerdict, place_view};
+ghost use Rattle.asl_machine.specs.Reading.{parameters_told, delay_told, selector_told, names_in, choices_told, map_told, kind_told_with_targets};
+ghost use Rattle.asl_fields.specs.Reading.{fields_of, text_or_none};
+ghost use Rattle.asl_fields.specs.Rows.{type_view};
 ghost use Rattle.asl_machine.specs.Built.{state_as};
 
-use crate::choices::read_choices;
-use crate::fields::{
-    build_target, build_text_or_empty, build_tree, is_given, natural_of, path_of, template_of,
-    text_of,
-};
-use crate::places::{Complaint, Place};
-use crate::rows::StateType;
 use crate::scopes::{build_branch_starts, build_processor_start};
 use crate::state_checking::check_rule_targets;
+use asl_fields::rows::StateType;
+use asl_fields::{
+    Complaint, Place, build_target, build_text_or_empty, build_tree, is_given, natural_of, path_of,
+    read_choices, template_of, text_of,
+};
 use asl_path::RefPath;
 use asl_states::{ChoiceRule, Delay, Kind, Target};
 use asl_template::Template;

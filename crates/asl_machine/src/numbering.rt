@@ -4,14 +4,14 @@ ghost use Rattle.std.specs.Prelude.{◌≡◌, ◌++◌, ◌∷◌, [], List, ma
 ghost use Rattle.std.specs.List.{list_any};
 ghost use Rattle.asl_model.specs.Numbering.{Standing, table_among};
 ghost use Rattle.asl_model.specs.StandsFor.{duplicate_complaints, number_complaints};
-ghost use Rattle.asl_machine.specs.Definition.{IsAmong};
+ghost use Rattle.asl_fields.specs.Verdicts.{IsAmong};
 ghost use Rattle.asl_machine.specs.Numbered.{home_view, number_in, placed_in, placed_view, names_of_all, Holds, names_of_rows};
 ghost use Rattle.asl_states.specs.Machine.{scope_view};
 ghost use Rattle.asl_machine.specs.Built.{built_view};
-ghost use Rattle.asl_machine.specs.View.{refusal_view};
+ghost use Rattle.asl_fields.specs.View.{refusal_view};
 
 use crate::building::{BuiltState, Home};
-use crate::refusals::{DefFault, DefRefusal};
+use asl_fields::{DefFault, DefRefusal};
 use asl_states::{Scope, State};
 use asl_tree::OutOfMemory;
 use indexmap::IndexSet;

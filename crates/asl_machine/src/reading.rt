@@ -5,11 +5,11 @@ ghost use Rattle.serde_json.specs.View.{view};
 ghost use Rattle.asl_model.specs.StandsFor.{StandsFor, scope_of};
 ghost use Rattle.asl_machine.specs.Refusal.{IsRefused};
 ghost use Rattle.asl_machine_table.specs.Table.{scope_in};
-ghost use Rattle.asl_machine.specs.View.{refusal_view};
+ghost use Rattle.asl_fields.specs.View.{refusal_view};
 
 use crate::numbering::number;
-use crate::refusals::DefRefusal;
 use crate::scope_reading::read_states;
+use asl_fields::DefRefusal;
 use asl_machine_table::Machine;
 use serde_json::Value;
 use std::alloc::Global;

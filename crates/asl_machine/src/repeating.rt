@@ -2,11 +2,10 @@
 
 ghost use Rattle.std.specs.Prelude.{◌≡◌, IfOk, OnOk};
 ghost use Rattle.asl_model.specs.StandsFor.{duplicate_complaints};
-ghost use Rattle.asl_machine.specs.Telling.{Told, from_last, repeated_told, texts};
+ghost use Rattle.asl_fields.specs.Telling.{Told};
+ghost use Rattle.asl_machine.specs.Telling.{from_last, repeated_told, texts};
 
-use crate::places::{Complaint, Place};
-use crate::refusals::DefFault;
-use crate::telling::tell;
+use asl_fields::{Complaint, DefFault, Place, tell};
 use asl_tree::OutOfMemory;
 use std::alloc::Global;
 use std::collections::BTreeMap;

@@ -9,26 +9,32 @@ ghost use Rattle.asl_model.specs.StandsFor as model;
 ghost use Rattle.asl_model.specs.StandsFor.{all_names, names_among, names_within, names_of_scopes};
 ghost use Rattle.asl_model.specs.StandsFor.{scope_of, states_in, states_under, each_state, state_of, scopes_in, each_scope, branches_under, processor_under};
 ghost use Rattle.asl_machine.specs.Built.{state_as};
-ghost use Rattle.asl_machine.specs.Definition.{IsVerdict, place_view};
-ghost use Rattle.asl_machine.specs.Reading.{branch_told, definition_told, fields_of, named_told, names_in, nested_told, own_told, typed_told, untyped_told};
-ghost use Rattle.asl_machine.specs.Rows.{rows_view, type_view};
-ghost use Rattle.asl_machine.specs.Telling.{Told, Walks, branch_checked};
+ghost use Rattle.asl_fields.specs.Verdicts.{IsVerdict, place_view};
+ghost use Rattle.asl_machine.specs.Reading.{branch_told, definition_told, named_told, names_in, nested_told, own_told, typed_told, untyped_told};
+ghost use Rattle.asl_fields.specs.Reading.{fields_of};
+ghost use Rattle.asl_fields.specs.Rows.{rows_view, type_view};
+ghost use Rattle.asl_fields.specs.Telling.{Told};
+ghost use Rattle.asl_machine.specs.Telling.{Walks, branch_checked};
 
-use crate::field_telling::{tell_fields, tell_rows};
-use crate::fields::text_of;
 use crate::kinds::type_of;
-use crate::places::{Complaint, Place};
-use crate::refusals::DefFault;
-use crate::rows::{self, Row, StateType};
 use crate::scope_reading::check_name;
 use crate::scopes::is_processor;
 use crate::state_checking::check_target;
 use crate::state_telling::tell_type_rules;
-use crate::telling::{Telling, tell, tell_found};
-use crate::value_checking::wrong_kind;
+use asl_fields::rows::{self, Row, StateType};
+use asl_fields::{
+    Complaint, DefFault, Place, tell, tell_fields, tell_found, tell_rows, text_of, wrong_kind,
+};
 use asl_tree::OutOfMemory;
 use serde_json::{Map, Value};
 use std::alloc::Global;
+
+/// What a walk over a definition tells: the complaints, and the names of the states that it comes to, in order.
+#[derive(Drop)]
+pub(crate) struct Telling<'a> {
+    pub(crate) told: Vec<Complaint<'a>>,
+    pub(crate) names: Vec<&'a str>,
+}
 
 /// Tells what is wrong with a definition, but for the names of all its states together, which it gathers.
 pub(crate) fn tell_definition<'a>(

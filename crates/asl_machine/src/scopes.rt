@@ -8,9 +8,9 @@ ghost use Rattle.asl_model.specs.Machine.{empty_scope, start_of};
 ghost use Rattle.asl_model.specs.Numbering.{scopes_outline};
 ghost use Rattle.asl_model.specs.StandsFor.{scope_of, each_scope, branches_under, processor_under, is_processor as model_is_processor};
 ghost use Rattle.asl_states.specs.Machine.{branches_view};
-ghost use Rattle.asl_machine.specs.Reading.{fields_of};
+ghost use Rattle.asl_fields.specs.Reading.{fields_of};
 
-use crate::fields::{build_text_or_empty, elements_of};
+use asl_fields::{build_text_or_empty, elements_of};
 use asl_states::Target;
 use asl_tree::OutOfMemory;
 use serde_json::{Map, Value};

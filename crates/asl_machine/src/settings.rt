@@ -5,18 +5,19 @@ ghost use Rattle.asl_model.specs.Machine.{settings_of};
 ghost use Rattle.asl_model.specs.StandsFor.{path_or_null_at, template_at, settings_in};
 ghost use Rattle.asl_template.specs.View as templates;
 ghost use Rattle.asl_states.specs.Machine.{settings_view};
-ghost use Rattle.asl_machine.specs.Definition.{IsVerdict, place_view};
-ghost use Rattle.asl_machine.specs.Reading.{processing_told, settings_told, fields_of, names_in};
-ghost use Rattle.asl_machine.specs.Rows.{type_view};
+ghost use Rattle.asl_fields.specs.Verdicts.{IsVerdict, place_view};
+ghost use Rattle.asl_machine.specs.Reading.{processing_told, settings_told, names_in};
+ghost use Rattle.asl_fields.specs.Reading.{fields_of};
+ghost use Rattle.asl_fields.specs.Rows.{type_view};
 ghost use Rattle.asl_machine.specs.Built.{state_as};
 
-use crate::fields::{
-    build_target, build_text, natural_of, optional_natural_of, path_or_null_of, template_of,
-};
 use crate::kinds::read_parameters;
-use crate::places::{Complaint, Place};
-use crate::rows::StateType;
 use crate::trouble_reading::read_trouble;
+use asl_fields::rows::StateType;
+use asl_fields::{
+    Complaint, Place, build_target, build_text, natural_of, optional_natural_of, path_or_null_of,
+    template_of,
+};
 use asl_path::RefPath;
 use asl_states::Settings;
 use asl_template::Template;

@@ -5,15 +5,14 @@ ghost use Rattle.serde_json.specs.Find.{get_member};
 ghost use Rattle.asl_model.specs.DefinitionTable.{as_whole};
 ghost use Rattle.asl_model.specs.ShapeSpelling.{is_among};
 ghost use Rattle.asl_model.specs.StandsFor as model;
-ghost use Rattle.asl_machine.specs.Rows.{type_view};
+ghost use Rattle.asl_fields.specs.Rows.{type_view};
 ghost use Rattle.asl_states.specs.Machine.{choice_rule_view, target_name};
-ghost use Rattle.asl_machine.specs.Definition.{IsVerdict, place_view};
-ghost use Rattle.asl_machine.specs.Reading.{goes_on_told, rules_of_type, fields_of, names_in, ends_at, task_told, wait_told, map_rules_told};
+ghost use Rattle.asl_fields.specs.Verdicts.{IsVerdict, place_view};
+ghost use Rattle.asl_machine.specs.Reading.{goes_on_told, rules_of_type, names_in, ends_at, task_told, wait_told, map_rules_told};
+ghost use Rattle.asl_fields.specs.Reading.{fields_of};
 
-use crate::fields::{is_given, text_of};
-use crate::places::{Complaint, Place};
-use crate::refusals::DefFault;
-use crate::rows::StateType;
+use asl_fields::rows::StateType;
+use asl_fields::{Complaint, DefFault, Place, is_given, text_of};
 use asl_states::ChoiceRule;
 use serde_json::Value;
 

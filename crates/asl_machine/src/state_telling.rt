@@ -4,24 +4,22 @@
 ghost use Rattle.std.specs.Prelude.{OnOk, codes};
 ghost use Rattle.serde_json.specs.View.{view, items_view};
 ghost use Rattle.asl_model.specs.StandsFor as model;
-ghost use Rattle.asl_machine.specs.Definition.{IsVerdict, place_view};
-ghost use Rattle.asl_machine.specs.Reading.{catcher_told, fields_of, names_in, names_told, retrier_told, rules_among};
-ghost use Rattle.asl_machine.specs.Rows.{rows_view, type_view};
-ghost use Rattle.asl_machine.specs.Telling.{Told, rule_spelled};
+ghost use Rattle.asl_fields.specs.Verdicts.{IsVerdict, place_view};
+ghost use Rattle.asl_machine.specs.Reading.{catcher_told, names_in, names_told, retrier_told};
+ghost use Rattle.asl_fields.specs.Reading.{fields_of, rules_among};
+ghost use Rattle.asl_fields.specs.Rows.{rows_view, type_view};
+ghost use Rattle.asl_fields.specs.Telling.{Told};
+ghost use Rattle.asl_machine.specs.Telling.{rule_spelled};
 
-use crate::choices::read_rule;
-use crate::field_telling::tell_fields;
-use crate::fields::elements_of;
-use crate::places::{Complaint, Place};
-use crate::refusals::DefFault;
-use crate::rows::{self, Row, StateType};
 use crate::state_checking::{
     DELAYS, PROCESSORS, check_goes_on, check_heartbeat, check_one_of, check_rule_target,
     check_selector, check_target,
 };
-use crate::telling::{tell, tell_found};
 use crate::trouble_reading::read_error_names;
-use crate::value_checking::wrong_kind;
+use asl_fields::rows::{self, Row, StateType};
+use asl_fields::{
+    Complaint, DefFault, Place, elements_of, read_rule, tell, tell_fields, tell_found, wrong_kind,
+};
 use asl_tree::OutOfMemory;
 use serde_json::Value;
 use std::alloc::Global;

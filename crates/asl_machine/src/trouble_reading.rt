@@ -8,20 +8,17 @@ ghost use Rattle.asl_model.specs.ShapeSpelling.{is_among};
 ghost use Rattle.asl_model.specs.StandsFor as model;
 ghost use Rattle.asl_model.specs.StandsFor.{place_within, listed, items_at, error_names, default_rate as model_default_rate, retrier_of, catcher_of};
 ghost use Rattle.asl_states.specs.Machine.{retrier_view, catcher_view};
-ghost use Rattle.asl_machine.specs.Rows.{rows_view};
-ghost use Rattle.asl_machine.specs.Definition.{IsVerdict, place_view};
-ghost use Rattle.asl_machine.specs.Reading.{are_proper as model_are_proper, element_checked, fields_of, names_in, names_told, retrier_told, catcher_told, caught_checked};
+ghost use Rattle.asl_fields.specs.Rows.{rows_view};
+ghost use Rattle.asl_fields.specs.Verdicts.{IsVerdict, place_view};
+ghost use Rattle.asl_machine.specs.Reading.{are_proper as model_are_proper, element_checked, names_in, names_told, retrier_told, catcher_told, caught_checked};
+ghost use Rattle.asl_fields.specs.Reading.{fields_of};
 
-use crate::field_checking::check_fields;
-use crate::fields::{
-    build_text, build_text_or, build_text_or_empty, elements_of, natural_of, number_of,
-    optional_natural_of, path_or_null_of,
-};
-use crate::places::{Complaint, Place};
-use crate::refusals::DefFault;
-use crate::rows::{self, Row};
 use crate::state_checking::check_target;
-use crate::value_checking::wrong_kind;
+use asl_fields::rows::{self, Row};
+use asl_fields::{
+    Complaint, DefFault, Place, build_text, build_text_or, build_text_or_empty, check_fields,
+    elements_of, natural_of, number_of, optional_natural_of, path_or_null_of, wrong_kind,
+};
 use asl_states::{Catcher, Retrier, Target};
 use asl_tree::OutOfMemory;
 use serde_json::{Number, Value};

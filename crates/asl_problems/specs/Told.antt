@@ -8,10 +8,10 @@ use Rattle.asl_model.specs.Records.{RecordComplaint}
 use Rattle.asl_model.specs.StandsFor.{Complaint}
 use Rattle.asl_model.specs.Tree.{Tree}
 use Rattle.asl_tree.specs.View.{view}
-use Rattle.asl_machine.specs.View.{refusal_view}
+use Rattle.asl_fields.specs.View.{refusal_view}
 use Rattle.asl_records.specs.View.{complaint_view}
 use Rattle.asl_records.specs.declared.refusals.RecordRefusal.{RecordRefusal}
-use Rattle.asl_machine.specs.declared.refusals.DefRefusal.{DefRefusal}
+use Rattle.asl_fields.specs.declared.refusals.DefRefusal.{DefRefusal}
 use Rattle.asl_diagnostics.specs.Rules.{not_settled_name}
 use Rattle.asl_diagnostics.specs.declared.Diagnostic.{Diagnostic}
 use Rattle.asl_diagnostics.specs.declared.Severity.{Severity}

@@ -1,7 +1,7 @@
 //! What is told of the texts, before it has a place and a message.
 ghost use Rattle.std.specs.Prelude.{◌≡◌, IfOk, IfSome, None, Some, codes, option_map, string_bytes};
 ghost use Rattle.asl_check.specs.View.{finding_view};
-ghost use Rattle.asl_machine.specs.View.{refusal_view};
+ghost use Rattle.asl_fields.specs.View.{refusal_view};
 ghost use Rattle.asl_records.specs.View.{complaint_view};
 ghost use Rattle.asl_problems.specs.Told.{error, not_json, not_settled, not_whole, of_complaint, of_finding, of_record, told_by, unless_empty};
 

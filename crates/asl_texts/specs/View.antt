@@ -5,8 +5,8 @@ use Rattle.asl_model.specs.Texts as texts
 use Rattle.asl_model.specs.Printed as printed
 use Rattle.asl_tree.specs.declared.TreeRefusal.{TreeRefusal}
 use Rattle.asl_tree.specs.declared.TreeRefusal.TheVariants as tree
-use Rattle.asl_machine.specs.declared.refusals.DefRefusal.{DefRefusal}
-use Rattle.asl_machine.specs.View.{refusal_view}
+use Rattle.asl_fields.specs.declared.refusals.DefRefusal.{DefRefusal}
+use Rattle.asl_fields.specs.View.{refusal_view}
 use Rattle.asl_records.specs.declared.refusals.RecordRefusal.{RecordRefusal}
 use Rattle.asl_records.specs.View.{complaint_view}
 use Rattle.asl_check.specs.View.{verdict_view}

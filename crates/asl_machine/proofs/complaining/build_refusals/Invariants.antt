@@ -1,6 +1,6 @@
 use Rattle.std.proofs.Common.{◌≡◌, map, take}
-use Rattle.asl_machine.specs.Definition.{complaint_view}
-use Rattle.asl_machine.specs.View.{refusal_view}
+use Rattle.asl_fields.specs.Verdicts.{complaint_view}
+use Rattle.asl_fields.specs.View.{refusal_view}
 use Rattle.asl_machine.proofs.complaining.build_refusals.Given as goal
 
 abbrev pub invariant-loop-complaint : goal.invariant-loop-complaint

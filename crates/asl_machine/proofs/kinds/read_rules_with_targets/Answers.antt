@@ -2,7 +2,7 @@ use Rattle.std.proofs.Common.{◌≡◌, [], map, ap, ◌∙◌, subst, rules}
 use Rattle.serde_json.specs.View.{view}
 use Rattle.asl_model.specs.StandsFor.{members_in, state_names, rules_complaints}
 use Rattle.asl_states.specs.Machine.{choice_rule_view}
-use Rattle.asl_machine.specs.Definition.{IsAmong, complaint_view, place_view}
+use Rattle.asl_fields.specs.Verdicts.{IsAmong, complaint_view, place_view}
 use Rattle.asl_machine.proofs.Checks.{handed_on, told_first, told_next}
 use Rattle.asl_machine.proofs.kinds.read_rules_with_targets.Goals as goal
 

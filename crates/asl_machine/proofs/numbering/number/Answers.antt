@@ -2,10 +2,10 @@ use Rattle.std.proofs.Common.{◌++◌, map, string_bytes, subst, sym, ap, ◌�
 use Rattle.std.proofs.lemmas.List.{length-map}
 use Rattle.asl_model.specs.StandsFor.{duplicate_complaints, number_complaints}
 use Rattle.asl_states.specs.Machine.{scope_view}
-use Rattle.asl_machine.specs.Definition.{IsAmong}
+use Rattle.asl_fields.specs.Verdicts.{IsAmong}
 use Rattle.asl_machine.specs.Numbered.{names_of_all, placed_in, home_view}
 use Rattle.asl_machine.specs.Built.{built_view}
-use Rattle.asl_machine.specs.View.{refusal_view}
+use Rattle.asl_fields.specs.View.{refusal_view}
 use Rattle.asl_machine.proofs.Numbers.{too_many, table_held}
 use Rattle.asl_machine.proofs.Checks.{among_first, handed_error}
 use Rattle.asl_machine.proofs.numbering.number.Goals as goal

@@ -1,9 +1,9 @@
 use Rattle.std.proofs.Common.{◌≡◌, [], ◌∷◌, ◌++◌, map, sym, ap, ◌∙◌, subst, append_assoc}
 use Rattle.asl_model.specs.StandsFor.{duplicate_complaints}
-use Rattle.asl_machine.specs.Definition.{IsAmong}
+use Rattle.asl_fields.specs.Verdicts.{IsAmong}
 use Rattle.asl_machine.specs.Numbered.{names_of_all}
 use Rattle.asl_machine.specs.Built.{built_view}
-use Rattle.asl_machine.specs.View.{refusal_view}
+use Rattle.asl_fields.specs.View.{refusal_view}
 use Rattle.asl_machine.proofs.Checks.{handed_error}
 use Rattle.asl_machine.proofs.numbering.number_all.Goals as goal
 

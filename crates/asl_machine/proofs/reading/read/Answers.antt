@@ -5,9 +5,9 @@ use Rattle.asl_model.specs.Numbering.{standing_in, outlined}
 use Rattle.asl_model.specs.StandsFor.{scope_of}
 use Rattle.asl_machine_table.specs.Rebuilding.{machine_of}
 use Rattle.asl_machine.specs.Built.{built_view}
-use Rattle.asl_machine.specs.Definition.{complaint_view}
+use Rattle.asl_fields.specs.Verdicts.{complaint_view}
 use Rattle.asl_machine.specs.Numbered.{placed_view}
-use Rattle.asl_machine.specs.View.{refusal_view}
+use Rattle.asl_fields.specs.View.{refusal_view}
 use Rattle.asl_machine.proofs.Refused.{rules_broken, rules_refused, told_found, names_refused, stands, whole, same_machine}
 use Rattle.asl_machine.proofs.reading.read.Goals as goal
 

@@ -1,5 +1,5 @@
 use Rattle.std.proofs.Common.{length, map}
-use Rattle.asl_machine.specs.Definition.{complaint_view}
+use Rattle.asl_fields.specs.Verdicts.{complaint_view}
 use Rattle.asl_machine.specs.Telling.{from_last}
 use Rattle.asl_machine.proofs.Told.{TellsOf}
 use Rattle.asl_machine.proofs.repeating.tell_each.Given as goal

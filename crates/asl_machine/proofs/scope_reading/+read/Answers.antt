@@ -7,8 +7,8 @@ use Rattle.asl_model.specs.Numbering.{standing_among, standing_in}
 use Rattle.asl_model.specs.StandsFor.{members_in, state_names, states_under, processor_under, place_of_state, fields_complaints, foreign_complaints, type_complaints, nested_complaints, states_complaints, branches_complaints, each_branch_complaints, branches_complaints_under, processor_complaints_under}
 use Rattle.asl_model.specs.DefinitionTable.{rows_of}
 use Rattle.asl_machine.specs.Built.{built_view, owner_view, standing_with, Adds}
-use Rattle.asl_machine.specs.Rows.{rows_view, type_view}
-use Rattle.asl_machine.specs.Definition.{IsVerdict, place_view}
+use Rattle.asl_fields.specs.Rows.{rows_view, type_view}
+use Rattle.asl_fields.specs.Verdicts.{IsVerdict, place_view}
 use Rattle.asl_machine.proofs.Added.{adds_none, added_behind}
 use Rattle.asl_machine.proofs.Checks.{handed_on, told_first, told_next, told_of_left, left_after}
 use Rattle.asl_machine.proofs.Nested.{Member, standing_of, standing_of_none, standing_found, standing_each_found, standing_processor, each_more, members_more}

@@ -1,7 +1,7 @@
 use Rattle.serde_json.specs.View.{view}
 use Rattle.asl_model.specs.StandsFor.{members_in}
 use Rattle.asl_states.specs.Machine.{settings_view, kind_view}
-use Rattle.asl_machine.specs.Rows.{type_view}
+use Rattle.asl_fields.specs.Rows.{type_view}
 use Rattle.asl_machine.proofs.Checks.{handed_on, told_first, told_next}
 use Rattle.asl_machine.proofs.Outlines.{state_built}
 use Rattle.asl_machine.proofs.scope_reading.read_outline.Goals as goal

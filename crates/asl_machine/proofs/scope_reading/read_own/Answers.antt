@@ -3,9 +3,9 @@ use Rattle.serde_json.specs.View.{view}
 use Rattle.asl_model.specs.DefinitionTable.{rows_of}
 use Rattle.asl_model.specs.StandsFor.{members_in, state_names, place_of_state, foreign_complaints}
 use Rattle.asl_machine.specs.Built.{state_as}
-use Rattle.asl_machine.specs.Definition.{IsVerdict}
-use Rattle.asl_machine.specs.Reading.{checked_complaints}
-use Rattle.asl_machine.specs.Rows.{type_view}
+use Rattle.asl_fields.specs.Verdicts.{IsVerdict}
+use Rattle.asl_fields.specs.Reading.{checked_complaints}
+use Rattle.asl_fields.specs.Rows.{type_view}
 use Rattle.asl_machine.proofs.Checks.{handed_on, first_none, second_none, told_but_memory, built_on, all_on}
 use Rattle.asl_machine.proofs.OwnRules.{own_told, others_told}
 use Rattle.asl_machine.proofs.scope_reading.read_own.Goals as goal

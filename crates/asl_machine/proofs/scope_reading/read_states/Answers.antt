@@ -1,7 +1,7 @@
 use Rattle.std.proofs.Common.{[], refl, Some, Ok, subst}
 use Rattle.asl_model.specs.DefinitionTable.{NotObject}
 use Rattle.asl_model.specs.StandsFor.{place_of_state}
-use Rattle.asl_machine.specs.Definition.{IsVerdict, told_unless}
+use Rattle.asl_fields.specs.Verdicts.{IsVerdict, told_unless}
 use Rattle.asl_machine.proofs.Checks.{told_next}
 use Rattle.asl_machine.proofs.scope_reading.read_states.Goals as goal
 

@@ -3,7 +3,7 @@ use Rattle.serde_json.specs.View.{view}
 use Rattle.asl_model.specs.DefinitionTable.{every_state_rows, UnknownType}
 use Rattle.asl_model.specs.StandsFor.{members_in, text_at, place_of_state, rows_complaints, unknown_type, complaint_at}
 use Rattle.asl_machine.proofs.Checks.{told_first, told_next}
-use Rattle.asl_machine.proofs.Objects.{told_head}
+use Rattle.asl_fields.proofs.Objects.{told_head}
 use Rattle.asl_machine.proofs.Nesting.{type_unknown}
 use Rattle.asl_machine.proofs.scope_reading.told_without_type.Goals as goal
 

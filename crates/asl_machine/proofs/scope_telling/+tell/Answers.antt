@@ -4,9 +4,9 @@ use Rattle.serde_json.specs.Find.{as_object}
 use Rattle.serde_json.specs.View.{view, items_view, members_view}
 use Rattle.asl_model.specs.DefinitionTable.{rows_of}
 use Rattle.asl_model.specs.StandsFor.{all_names, branches_complaints, branches_complaints_under, each_branch_complaints, each_scope, each_state, each_state_complaints, fields_complaints, members_in, names_among, names_of_scopes, names_within, nested_complaints, place_of_state, processor_complaints_under, processor_under, scopes_in, state_names, states_complaints, states_in, text_at, type_complaints}
-use Rattle.asl_machine.specs.declared.telling.Telling.{Telling}
-use Rattle.asl_machine.specs.Definition.{place_view}
-use Rattle.asl_machine.specs.Rows.{rows_view, type_view}
+use Rattle.asl_machine.specs.declared.scope_telling.Telling.{Telling}
+use Rattle.asl_fields.specs.Verdicts.{place_view}
+use Rattle.asl_fields.specs.Rows.{rows_view, type_view}
 use Rattle.asl_machine.specs.Telling.{Walks}
 use Rattle.asl_machine.proofs.Naming.{names_found, names_left, names_of_branches_found, names_of_no_state, names_of_none, names_of_processor, names_of_scope, names_of_untyped, names_parts, no_state_told}
 use Rattle.asl_machine.proofs.Nested.{Member}

@@ -1,7 +1,8 @@
 use Rattle.std.proofs.Common.{◌≡◌, map, option_map, drop}
 use Rattle.serde_json.specs.View.{view}
 use Rattle.asl_model.specs.StandsFor.{members_in, given_among, one_of_complaints}
-use Rattle.asl_machine.specs.Definition.{place_view, one_of_left}
+use Rattle.asl_fields.specs.Verdicts.{place_view}
+use Rattle.asl_machine.specs.Reading.{one_of_left}
 use Rattle.asl_machine.proofs.state_checking.check_one_of.Given as goal
 
 abbrev pub invariant-loop-field : goal.invariant-loop-field

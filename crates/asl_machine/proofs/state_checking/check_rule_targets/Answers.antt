@@ -1,6 +1,6 @@
 use Rattle.serde_json.specs.View.{view}
 use Rattle.asl_model.specs.StandsFor.{members_in, state_names}
-use Rattle.asl_machine.specs.Definition.{place_view}
+use Rattle.asl_fields.specs.Verdicts.{place_view}
 use Rattle.asl_machine.proofs.Checks.{handed_on, left_after, told_of_left}
 use Rattle.asl_machine.proofs.Values.{rules_parts}
 use Rattle.asl_machine.proofs.state_checking.check_rule_targets.Goals as goal

@@ -2,7 +2,7 @@ use Rattle.std.proofs.Common.{◌≡◌, map, drop}
 use Rattle.serde_json.specs.View.{view}
 use Rattle.asl_model.specs.StandsFor.{members_in, state_names, rules_complaints}
 use Rattle.asl_states.specs.Machine.{choice_rule_view}
-use Rattle.asl_machine.specs.Definition.{place_view}
+use Rattle.asl_fields.specs.Verdicts.{place_view}
 use Rattle.asl_machine.proofs.state_checking.check_rule_targets.Given as goal
 
 abbrev pub invariant-loop-rule : goal.invariant-loop-rule

@@ -1,7 +1,7 @@
 use Rattle.std.proofs.Common.{codes}
 use Rattle.serde_json.specs.View.{view}
 use Rattle.asl_model.specs.StandsFor.{members_in, state_names, text_at}
-use Rattle.asl_machine.specs.Definition.{place_view}
+use Rattle.asl_fields.specs.Verdicts.{place_view}
 use Rattle.asl_machine.proofs.Single.{single_if, single_target}
 use Rattle.asl_machine.proofs.Told.{tells_then}
 use Rattle.asl_machine.proofs.state_telling.tell_catcher.Goals as goal

@@ -1,7 +1,7 @@
 use Rattle.std.proofs.Common.{refl}
 use Rattle.serde_json.specs.View.{view}
 use Rattle.asl_model.specs.StandsFor.{members_in, state_names}
-use Rattle.asl_machine.specs.Definition.{place_view}
+use Rattle.asl_fields.specs.Verdicts.{place_view}
 use Rattle.asl_machine.proofs.Told.{less_left}
 use Rattle.asl_machine.proofs.Troubles.{catchers_parts}
 use Rattle.asl_machine.proofs.state_telling.tell_catchers.Goals as goal

@@ -1,7 +1,7 @@
 use Rattle.std.proofs.Common.{map, drop}
 use Rattle.serde_json.specs.View.{view, items_view}
 use Rattle.asl_model.specs.StandsFor.{members_in, catchers_complaints, state_names}
-use Rattle.asl_machine.specs.Definition.{complaint_view, place_view}
+use Rattle.asl_fields.specs.Verdicts.{complaint_view, place_view}
 use Rattle.asl_machine.proofs.Told.{TellsOf}
 use Rattle.asl_machine.proofs.state_telling.tell_catchers.Given as goal
 

@@ -1,7 +1,7 @@
 use Rattle.std.proofs.Common.{ap, codes}
 use Rattle.serde_json.specs.View.{view}
 use Rattle.asl_model.specs.StandsFor.{members_in, place_of_state, rules_complaints, state_names, text_at}
-use Rattle.asl_machine.specs.Reading.{rules_among}
+use Rattle.asl_fields.specs.Reading.{rules_among}
 use Rattle.asl_machine.proofs.Single.{single_target}
 use Rattle.asl_machine.proofs.Told.{tells_as, tells_then}
 use Rattle.asl_machine.proofs.state_telling.tell_choice.Goals as goal

@@ -3,8 +3,8 @@ use Rattle.serde_json.specs.Find.{as_object}
 use Rattle.serde_json.specs.View.{view}
 use Rattle.asl_model.specs.DefinitionTable.{wrong_kind}
 use Rattle.asl_model.specs.StandsFor.{complaint_at}
-use Rattle.asl_machine.specs.Definition.{complaint_view, place_view}
-use Rattle.asl_machine.specs.Rows.{rows_view}
+use Rattle.asl_fields.specs.Verdicts.{complaint_view, place_view}
+use Rattle.asl_fields.specs.Rows.{rows_view}
 use Rattle.asl_machine.proofs.Splits.{element_is_none, element_is_object}
 use Rattle.asl_machine.proofs.Told.{tells_on, told_all}
 use Rattle.asl_machine.proofs.state_telling.tell_element.Goals as goal

@@ -1,5 +1,5 @@
 use Rattle.std.proofs.Common.{refl}
-use Rattle.asl_machine.specs.Definition.{place_view}
+use Rattle.asl_fields.specs.Verdicts.{place_view}
 use Rattle.asl_machine.proofs.Told.{less_left}
 use Rattle.asl_machine.proofs.Troubles.{retriers_parts}
 use Rattle.asl_machine.proofs.state_telling.tell_retriers.Goals as goal

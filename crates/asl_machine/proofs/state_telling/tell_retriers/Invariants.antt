@@ -1,7 +1,7 @@
 use Rattle.std.proofs.Common.{map, drop}
 use Rattle.serde_json.specs.View.{items_view}
 use Rattle.asl_model.specs.StandsFor.{retriers_complaints}
-use Rattle.asl_machine.specs.Definition.{complaint_view, place_view}
+use Rattle.asl_fields.specs.Verdicts.{complaint_view, place_view}
 use Rattle.asl_machine.proofs.Told.{TellsOf}
 use Rattle.asl_machine.proofs.state_telling.tell_retriers.Given as goal
 

@@ -2,7 +2,7 @@ use Rattle.std.proofs.Common.{codes, Some}
 use Rattle.serde_json.specs.View.{view}
 use Rattle.asl_model.specs.StandsFor.{members_in, state_names}
 use Rattle.asl_states.specs.Machine.{choice_rule_view, target_name}
-use Rattle.asl_machine.specs.Definition.{place_view}
+use Rattle.asl_fields.specs.Verdicts.{place_view}
 use Rattle.asl_machine.proofs.Splits.{rule_told}
 use Rattle.asl_machine.proofs.Single.{single_target}
 use Rattle.asl_machine.proofs.Told.{tells_as}

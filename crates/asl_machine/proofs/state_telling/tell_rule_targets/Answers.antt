@@ -1,6 +1,6 @@
 use Rattle.serde_json.specs.View.{view}
 use Rattle.asl_model.specs.StandsFor.{members_in, state_names}
-use Rattle.asl_machine.specs.Definition.{place_view}
+use Rattle.asl_fields.specs.Verdicts.{place_view}
 use Rattle.asl_machine.proofs.Splits.{rules_split}
 use Rattle.asl_machine.proofs.Told.{less_left}
 use Rattle.asl_machine.proofs.state_telling.tell_rule_targets.Goals as goal

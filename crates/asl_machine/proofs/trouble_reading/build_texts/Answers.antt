@@ -1,7 +1,7 @@
 use Rattle.std.proofs.Common.{[], ◌∷◌, ◌++◌, map, sym, ap, ◌∙◌, arith, string_bytes}
 use Rattle.std.proofs.lemmas.List.{map-append}
 use Rattle.serde_json.specs.Find.{as_str}
-use Rattle.asl_machine.proofs.Elements.{filtered_all, filtered_more, filtered_past}
+use Rattle.asl_fields.proofs.Elements.{filtered_all, filtered_more, filtered_past}
 use Rattle.asl_machine.proofs.trouble_reading.build_texts.Goals as goal
 use Rattle.asl_machine.proofs.trouble_reading.build_texts.Goals.{in-Some+in_ok-from_str+in_ok-push, in_default}
 

@@ -2,7 +2,7 @@ use Rattle.std.proofs.Common.{◌≡◌, codes, map, IfOk, subst}
 use Rattle.serde_json.specs.View.{view}
 use Rattle.asl_model.specs.StandsFor.{members_in, state_names, place_within, listed, catcher_of, catchers_complaints}
 use Rattle.asl_states.specs.Machine.{catcher_view}
-use Rattle.asl_machine.specs.Definition.{IsVerdict}
+use Rattle.asl_fields.specs.Verdicts.{IsVerdict}
 use Rattle.asl_machine.proofs.trouble_reading.read_catch.Goals as goal
 
 pub returns-clause-catchers : goal.returns-clause-catchers

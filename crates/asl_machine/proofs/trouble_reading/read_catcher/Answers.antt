@@ -1,5 +1,5 @@
 use Rattle.serde_json.specs.View.{view}
-use Rattle.asl_machine.specs.Definition.{place_view}
+use Rattle.asl_fields.specs.Verdicts.{place_view}
 use Rattle.asl_machine.proofs.Troubles.{catcher_checked, catcher_read}
 use Rattle.asl_machine.proofs.Checks.{handed_on}
 use Rattle.asl_machine.proofs.trouble_reading.read_catcher.Goals as goal

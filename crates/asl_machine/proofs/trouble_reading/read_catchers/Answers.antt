@@ -2,7 +2,7 @@ use Rattle.std.proofs.Common.{map, arith}
 use Rattle.serde_json.specs.View.{view}
 use Rattle.asl_model.specs.StandsFor.{members_in, state_names, catcher_of}
 use Rattle.asl_states.specs.Machine.{catcher_view}
-use Rattle.asl_machine.specs.Definition.{place_view}
+use Rattle.asl_fields.specs.Verdicts.{place_view}
 use Rattle.asl_machine.proofs.Checks.{handed_on, left_after, told_of_left}
 use Rattle.asl_machine.proofs.Elements.{mapped_all, mapped_more}
 use Rattle.asl_machine.proofs.Troubles.{catchers_parts}

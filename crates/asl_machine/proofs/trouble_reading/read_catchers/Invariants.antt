@@ -2,7 +2,7 @@ use Rattle.std.proofs.Common.{◌≡◌, map, take, drop}
 use Rattle.serde_json.specs.View.{view, items_view}
 use Rattle.asl_model.specs.StandsFor.{members_in, state_names, catcher_of, catchers_complaints}
 use Rattle.asl_states.specs.Machine.{catcher_view}
-use Rattle.asl_machine.specs.Definition.{place_view}
+use Rattle.asl_fields.specs.Verdicts.{place_view}
 use Rattle.asl_machine.proofs.trouble_reading.read_catchers.Given as goal
 
 abbrev pub invariant-loop-index : goal.invariant-loop-index

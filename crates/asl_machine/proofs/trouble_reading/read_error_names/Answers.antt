@@ -1,7 +1,7 @@
 use Rattle.std.proofs.Common.{◌≡◌, [], map, string_bytes, ap, ◌∙◌, subst, rules}
 use Rattle.asl_model.specs.DefinitionTable.{BadErrorEquals}
 use Rattle.asl_model.specs.StandsFor.{complain_unless}
-use Rattle.asl_machine.specs.Definition.{IsAmong, complaint_view, place_view}
+use Rattle.asl_fields.specs.Verdicts.{IsAmong, complaint_view, place_view}
 use Rattle.asl_machine.specs.Reading.{are_proper}
 use Rattle.asl_machine.proofs.Checks.{handed_on, built_as}
 use Rattle.asl_machine.proofs.trouble_reading.read_error_names.Goals as goal

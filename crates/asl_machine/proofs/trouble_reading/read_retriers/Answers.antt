@@ -1,7 +1,7 @@
 use Rattle.std.proofs.Common.{map, arith}
 use Rattle.asl_model.specs.StandsFor.{retrier_of}
 use Rattle.asl_states.specs.Machine.{retrier_view}
-use Rattle.asl_machine.specs.Definition.{place_view}
+use Rattle.asl_fields.specs.Verdicts.{place_view}
 use Rattle.asl_machine.proofs.Checks.{handed_on, left_after, told_of_left}
 use Rattle.asl_machine.proofs.Elements.{mapped_all, mapped_more}
 use Rattle.asl_machine.proofs.Troubles.{retriers_parts}

@@ -1,7 +1,7 @@
 use Rattle.std.proofs.Common.{◌≡◌, codes, map, IfOk, subst}
 use Rattle.asl_model.specs.StandsFor.{place_within, listed, retrier_of, retriers_complaints}
 use Rattle.asl_states.specs.Machine.{retrier_view}
-use Rattle.asl_machine.specs.Definition.{IsVerdict}
+use Rattle.asl_fields.specs.Verdicts.{IsVerdict}
 use Rattle.asl_machine.proofs.trouble_reading.read_retry.Goals as goal
 
 pub returns-clause-retriers : goal.returns-clause-retriers

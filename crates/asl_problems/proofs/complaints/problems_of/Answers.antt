@@ -1,5 +1,5 @@
 use Rattle.std.proofs.Common.{Some, option_map, sym, rules}
-use Rattle.asl_machine.specs.View.{refusal_view}
+use Rattle.asl_fields.specs.View.{refusal_view}
 use Rattle.asl_problems.specs.Told.{refusals_told}
 use Rattle.asl_problems.specs.Told.{of_complaint, told_by}
 use Rattle.asl_problems.proofs.Lists.{none_left, one_more}

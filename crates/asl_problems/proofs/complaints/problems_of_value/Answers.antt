@@ -1,6 +1,6 @@
 use Rattle.serde_json.specs.View.{view}
 use Rattle.asl_model.specs.StandsFor.{complaints}
-use Rattle.asl_machine.specs.View.{refusal_view}
+use Rattle.asl_fields.specs.View.{refusal_view}
 use Rattle.asl_problems.specs.Told.{of_complaint}
 use Rattle.asl_problems.proofs.Refusals.{complaints_told}
 use Rattle.asl_problems.proofs.complaints.problems_of_value.Goals as goal

@@ -2,7 +2,7 @@ use Rattle.std.proofs.Common.{refl, sym, subst}
 use Rattle.std.proofs.lemmas.Result.{err_from_is_err_and}
 use Rattle.serde_json.specs.View.{view}
 use Rattle.asl_model.specs.StandsFor.{StandsFor}
-use Rattle.asl_machine.specs.View.{refusal_view}
+use Rattle.asl_fields.specs.View.{refusal_view}
 use Rattle.asl_texts.specs.View.{text_fault_view}
 use Rattle.asl_texts.specs.Verifying.{RefusesDefinition}
 use Rattle.asl_texts.proofs.RefusedTexts.{unread-definition, refused-definition}

@@ -1,5 +1,5 @@
 use Rattle.std.proofs.Common.{sym, ◌∙◌}
-use Rattle.asl_machine.specs.View.{refusal_view}
+use Rattle.asl_fields.specs.View.{refusal_view}
 use Rattle.asl_machine.proofs.Numbers.{row_again}
 use Rattle.asl_machine.proofs.numbering.Numbered.add.Goals as goal
 

@@ -1,0 +1,12 @@
+use Rattle.std.proofs.Common.{◌≡◌, true, Some, codes, rules}
+use Rattle.serde_json.specs.Find.{get}
+use Rattle.serde_json.specs.View.{view}
+use Rattle.asl_model.specs.DefinitionTable as model
+use Rattle.asl_fields.specs.Verdicts.{place_view}
+use Rattle.asl_fields.proofs.Objects.{told_given}
+use Rattle.asl_fields.proofs.choices.read_choices.Goals as goal
+
+pub returns-in-Err-clause-told : goal.returns-in-Err-clause-told
+returns-in-Err-clause-told c =
+    let there : get (codes "Choices") (view c.args.state.now) ≡ Some (view c.in-Some.value.now) = search rules in
+    told_given (place_view c.args.place.now) (codes "Choices") true model.RulesValue (view c.args.state.now) (view c.in-Some.value.now) c.complaint.result there (c.complaint.ensures.among _ c.in-Err.ensures.faults.holds)

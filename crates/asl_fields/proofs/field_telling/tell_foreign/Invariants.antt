@@ -1,0 +1,11 @@
+use Rattle.std.proofs.Common.{map}
+use Rattle.serde_json.specs.View.{view, members_view}
+use Rattle.asl_model.specs.StandsFor.{members_in, foreign_complaints}
+use Rattle.asl_fields.specs.Verdicts.{complaint_view, place_view}
+use Rattle.asl_fields.specs.Rows.{rows_view}
+use Rattle.asl_fields.proofs.Told.{TellsOf}
+use Rattle.asl_fields.proofs.field_telling.tell_foreign.Given as goal
+
+abbrev pub invariant-loop-name : goal.invariant-loop-name
+invariant-loop-name l =
+    TellsOf (map complaint_view l.initial.told.items) (map complaint_view l.told.items) (foreign_complaints (place_view l.place) (rows_view l.rows) (members_in (view l.object))) (foreign_complaints (place_view l.place) (rows_view l.rows) (members_view l.name-iterator))

@@ -1,0 +1,5 @@
+pub mod Reading
+pub mod Rows
+pub mod Telling
+pub mod Verdicts
+pub mod View

@@ -1,7 +1,0 @@
-use Rattle.std.proofs.Common.{◌≡◌, drop}
-use Rattle.asl_model.specs.StandsFor.{has_row}
-use Rattle.asl_machine.specs.Rows.{rows_view}
-use Rattle.asl_machine.proofs.rows.has_row.Given as goal
-
-abbrev pub invariant-loop-row : goal.invariant-loop-row
-invariant-loop-row l = has_row l.name (rows_view l.rows) ≡ has_row l.name (rows_view (drop l.row-index l.rows))
