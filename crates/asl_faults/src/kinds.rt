@@ -3,129 +3,75 @@ use crate::found::Found;
 use crate::index::Index;
 use crate::paths::values_within;
 use crate::sources::{text_from, value_at};
+use asl_fields::rows::{Wanted, wanted_of};
 use asl_places::Spot;
 use asl_tree::OutOfMemory;
 use std::alloc::Global;
 
-/// What the value of a field has to be.
-#[derive(Clone, Copy)]
-enum Wanted {
-    Text,
-    Language,
-    /// A whole number above 0.
-    Positive,
-    /// A whole number, 0 or more.
-    Count,
-    Number,
-    Truth,
-    Path,
-    PathOrNull,
-    /// An object in which anything may stand.
-    Config,
-    States,
-    Scope,
-    Scopes,
-    Rules,
-    /// The names of errors.
-    Names,
-    Retriers,
-    Catchers,
-    /// The tasks of declared shapes.
-    Tasks,
-}
+/// The field with the tasks of declared shapes.
+const TASKS: &str = "tasks";
 
-/// What the value of the field has to be; none of a field with a template or with any value. A field has the same kind
-/// wherever it may stand.
-fn wanted_in(field: &str) -> Option<Wanted> {
-    match field {
-        // Declared shapes.
-        "tasks" => Some(Wanted::Tasks),
-        // States Language, "Top-level fields"; in a branch and in a processor, too.
-        "StartAt" | "Version" => Some(Wanted::Text),
-        "States" => Some(Wanted::States),
-        "TimeoutSeconds" => Some(Wanted::Positive),
-        "ProcessorConfig" => Some(Wanted::Config),
-        // "State Types": the fields of several types.
-        "Type" | "Comment" | "Next" => Some(Wanted::Text),
-        "QueryLanguage" => Some(Wanted::Language),
-        "End" => Some(Wanted::Truth),
-        "InputPath" | "OutputPath" | "ResultPath" => Some(Wanted::PathOrNull),
-        // "Task State".
-        "Resource" => Some(Wanted::Text),
-        "HeartbeatSeconds" => Some(Wanted::Positive),
-        // "Choice State".
-        "Choices" => Some(Wanted::Rules),
-        "Default" => Some(Wanted::Text),
-        // "Wait State".
-        "Seconds" => Some(Wanted::Count),
-        "Timestamp" => Some(Wanted::Text),
-        "SecondsPath" | "TimestampPath" => Some(Wanted::Path),
-        // "Fail State".
-        "Error" | "Cause" => Some(Wanted::Text),
-        // "Parallel State".
-        "Branches" => Some(Wanted::Scopes),
-        // "Map State".
-        "ItemProcessor" | "Iterator" => Some(Wanted::Scope),
-        "ItemsPath" => Some(Wanted::Path),
-        "MaxConcurrency" => Some(Wanted::Count),
-        // "Errors".
-        "Retry" => Some(Wanted::Retriers),
-        "Catch" => Some(Wanted::Catchers),
-        "ErrorEquals" => Some(Wanted::Names),
-        "IntervalSeconds" | "MaxDelaySeconds" => Some(Wanted::Positive),
-        "MaxAttempts" => Some(Wanted::Count),
-        "BackoffRate" => Some(Wanted::Number),
-        "JitterStrategy" => Some(Wanted::Text),
-        _ => None,
+/// What the value of a field has to be, in words; none of a field with a template or with any value.
+fn words_of(field: &str) -> Option<&'static str> {
+    match wanted_of(field) {
+        Some(wanted) => words(wanted),
+        None if field == TASKS => Some("an object with tasks"),
+        None => None,
     }
 }
 
-impl Wanted {
-    /// What is wanted, in words.
-    fn words(self) -> &'static str {
-        match self {
-            Wanted::Text => "a text",
-            Wanted::Language => "the text `JSONPath`",
-            Wanted::Positive => "a whole number above 0",
-            Wanted::Count => "a whole number, 0 or more",
-            Wanted::Number => "a number",
-            Wanted::Truth => "`true` or `false`",
-            Wanted::Path => "a reference path",
-            Wanted::PathOrNull => "a reference path or null",
-            Wanted::Config => "an object",
-            Wanted::States => "an object with states",
-            Wanted::Scope => "an object with `StartAt` and `States`",
-            Wanted::Scopes => "a list of objects with `StartAt` and `States`",
-            Wanted::Rules => "a list of rules",
-            Wanted::Names => "a list of texts",
-            Wanted::Retriers => "a list of retriers",
-            Wanted::Catchers => "a list of catchers",
-            Wanted::Tasks => "an object with tasks",
-        }
+/// What is wanted, in words; none where no value is told as of another kind: of a template, or of any value.
+fn words(wanted: Wanted) -> Option<&'static str> {
+    match wanted {
+        Wanted::Text => Some("a text"),
+        Wanted::Language => Some("the text `JSONPath`"),
+        Wanted::Positive => Some("a whole number above 0"),
+        Wanted::Count => Some("a whole number, 0 or more"),
+        Wanted::Number => Some("a number"),
+        Wanted::Truth => Some("`true` or `false`"),
+        Wanted::Path => Some("a reference path"),
+        Wanted::PathOrNull => Some("a reference path or null"),
+        Wanted::Template | Wanted::ItemTemplate | Wanted::Any => None,
+        Wanted::Config => Some("an object"),
+        Wanted::States => Some("an object with states"),
+        Wanted::Scope => Some("an object with `StartAt` and `States`"),
+        Wanted::Scopes => Some("a list of objects with `StartAt` and `States`"),
+        Wanted::Rules => Some("a list of rules"),
+        Wanted::Names => Some("a list of texts"),
+        Wanted::Retriers => Some("a list of retriers"),
+        Wanted::Catchers => Some("a list of catchers"),
     }
+}
 
-    /// What is said of a value of another kind in that field.
-    fn sentence(self, alloc: Global, field: &str) -> Result<String, OutOfMemory> {
-        let words = self.words();
-        Ok(format!(in alloc; "The value of `{field}` has to be {words}")?)
+/// What is said of a value of another kind in that field, where these words say what it wants.
+fn sentence(alloc: Global, field: &str, words: &str) -> Result<String, OutOfMemory> {
+    Ok(format!(in alloc; "The value of `{field}` has to be {words}")?)
+}
+
+/// Whether a value that is written so is of the kind that the field wants.
+fn is_met(field: &str, value: &[u8]) -> bool {
+    match wanted_of(field) {
+        Some(wanted) => is_met_by(wanted, value),
+        None => value.first() == Some(&b'{'),
     }
+}
 
-    /// Whether a value that is written so is of the kind that is wanted.
-    fn is_met_by(self, value: &[u8]) -> bool {
-        let Some(first) = value.first() else {
-            return false;
-        };
-        match self {
-            Wanted::Text | Wanted::Language | Wanted::Path => *first == b'"',
-            Wanted::PathOrNull => *first == b'"' || *first == b'n',
-            Wanted::Positive => matches!(whole_number(value), Some(number) if number > 0),
-            Wanted::Count => matches!(whole_number(value), Some(number) if number >= 0),
-            Wanted::Number => is_number(value),
-            Wanted::Truth => *first == b't' || *first == b'f',
-            Wanted::Config | Wanted::States | Wanted::Scope | Wanted::Tasks => *first == b'{',
-            Wanted::Scopes | Wanted::Rules | Wanted::Names | Wanted::Retriers | Wanted::Catchers =>
-                *first == b'[',
-        }
+/// Whether a value that is written so is of the kind that is wanted. Of what a template has to be this says nothing.
+fn is_met_by(wanted: Wanted, value: &[u8]) -> bool {
+    let Some(first) = value.first() else {
+        return false;
+    };
+    match wanted {
+        Wanted::Text | Wanted::Language | Wanted::Path => *first == b'"',
+        Wanted::PathOrNull => *first == b'"' || *first == b'n',
+        Wanted::Positive => matches!(whole_number(value), Some(number) if number > 0),
+        Wanted::Count => matches!(whole_number(value), Some(number) if number >= 0),
+        Wanted::Number => is_number(value),
+        Wanted::Truth => *first == b't' || *first == b'f',
+        Wanted::Template | Wanted::ItemTemplate | Wanted::Any => true,
+        Wanted::Config | Wanted::States | Wanted::Scope => *first == b'{',
+        Wanted::Scopes | Wanted::Rules | Wanted::Names | Wanted::Retriers | Wanted::Catchers =>
+            *first == b'[',
     }
 }
 
@@ -150,8 +96,8 @@ fn is_fraction(value: &[u8]) -> bool {
 
 /// What is said of a value of another kind than the field wants; none where the field may have any.
 pub fn sentence_of_kind(alloc: Global, field: &str) -> Result<Option<String>, OutOfMemory> {
-    match wanted_in(field) {
-        Some(wanted) => Ok(Some(wanted.sentence(alloc, field)?)),
+    match words_of(field) {
+        Some(words) => Ok(Some(sentence(alloc, field, words)?)),
         None => Ok(None),
     }
 }
@@ -183,17 +129,19 @@ impl Kinds<'_, '_, '_, '_> {
         value: Spot,
         found: &mut Vec<Found>,
     ) -> Result<(), OutOfMemory> {
-        match wanted_in(field) {
-            None => self.add_fraction(value, found),
+        let Some(words) = words_of(field) else {
+            return self.add_fraction(value, found);
+        };
+        match wanted_of(field) {
             Some(Wanted::Config) if self.first_fraction(value)?.is_some() => {
                 self.add_fraction(value, found)
             }
             Some(Wanted::Names) if self.written(value).first() == Some(&b'[') => {
                 self.add_of_names(value, found)
             }
-            Some(wanted) if wanted.is_met_by(self.written(value)) => Ok(()),
-            Some(wanted) => {
-                let sentence = wanted.sentence(self.alloc, field)?;
+            _ if is_met(field, self.written(value)) => Ok(()),
+            _ => {
+                let sentence = sentence(self.alloc, field, words)?;
                 self.add_misfit(value, sentence, found)
             }
         }
