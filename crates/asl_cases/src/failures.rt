@@ -21,10 +21,11 @@ pub(crate) fn failed_at(
     let mut place = Vec::new(alloc);
     let mut failure = (error, cause);
     for _level in 0..trace.len() {
-        let Some(entry) = last_at(trace, &place) else {
+        let Some((entry, state)) = last_at(trace, &place) else {
             break;
         };
-        push_state(alloc, &mut told, entry)?;
+        let state = quoted_text(alloc, state)?;
+        write!(told, " at {state}")?;
         let Entry::BranchFailed {
             child,
             error,
@@ -41,48 +42,30 @@ pub(crate) fn failed_at(
     Ok(told)
 }
 
-/// The last entry on a state at that place.
-fn last_at<'e, 'm>(trace: &'e [Entry<'m>], place: &[usize]) -> Option<&'e Entry<'m>> {
+/// The last entry on a state at that place, and the state's name.
+fn last_at<'e, 'm>(trace: &'e [Entry<'m>], place: &[usize]) -> Option<(&'e Entry<'m>, &'e str)> {
     for entry in trace.iter().rev() {
-        if is_at(entry, place) {
-            return Some(entry);
+        match told_of(entry) {
+            Some((at, state)) if at == place => return Some((entry, state)),
+            _ => {}
         }
     }
     None
 }
 
-/// Whether the entry tells of a state at that place.
-fn is_at(entry: &Entry<'_>, place: &[usize]) -> bool {
+/// The place and the name of the state of which the entry tells.
+fn told_of<'e>(entry: &'e Entry<'_>) -> Option<(&'e [usize], &'e str)> {
     match entry {
-        Entry::Enter { at, .. }
-        | Entry::Task { at, .. }
-        | Entry::Leave { at, .. }
-        | Entry::Raise { at, .. }
-        | Entry::TaskFailed { at, .. }
-        | Entry::BranchFailed { at, .. }
-        | Entry::Retried { at, .. }
-        | Entry::Caught { at, .. } => at.as_slice() == place,
-        Entry::Ended { .. } => false,
+        Entry::Enter { at, state, .. }
+        | Entry::Task { at, state, .. }
+        | Entry::Leave { at, state, .. }
+        | Entry::Raise { at, state, .. }
+        | Entry::TaskFailed { at, state, .. }
+        | Entry::BranchFailed { at, state, .. }
+        | Entry::Retried { at, state, .. }
+        | Entry::Caught { at, state, .. } => Some((at, state)),
+        Entry::Ended { .. } => None,
     }
-}
-
-/// Puts down the state of which the entry tells.
-fn push_state(alloc: Global, told: &mut String, entry: &Entry<'_>) -> Result<(), OutOfMemory> {
-    match entry {
-        Entry::Enter { state, .. }
-        | Entry::Task { state, .. }
-        | Entry::Leave { state, .. }
-        | Entry::Raise { state, .. }
-        | Entry::TaskFailed { state, .. }
-        | Entry::BranchFailed { state, .. }
-        | Entry::Retried { state, .. }
-        | Entry::Caught { state, .. } => {
-            let state = quoted_text(alloc, state)?;
-            write!(told, " at {state}")?;
-        }
-        Entry::Ended { .. } => {}
-    }
-    Ok(())
 }
 
 /// Puts down that a branch or an item has failed, and with what, where that is another failure than the one around it.
