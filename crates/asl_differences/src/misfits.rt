@@ -10,7 +10,7 @@ use crate::paths::{Step, path_text};
 use crate::words::{expected_found, found_text};
 use asl_notation::{Limits, note};
 use asl_numbered::Shapes;
-use asl_shape::{Arrays, Kinds, Objects, Shape, has, take_apart};
+use asl_shape::{Arrays, Kinds, Objects, Shape, has, inhabited, take_apart};
 use asl_tree::{OutOfMemory, Tree};
 use std::alloc::Global;
 use std::collections::BTreeMap;
@@ -121,11 +121,7 @@ fn first_element<'t>(arrays: Arrays<'t>, elements: &'t [Tree]) -> Option<Part<'t
     for (index, shape) in arrays.first.iter().enumerate() {
         let found = left.next();
         if !found.is_some_and(|element| has(shape, element)) {
-            return Some(Part {
-                step: Step::Index(index),
-                wanted: Some(shape),
-                found,
-            });
+            return part_at(Step::Index(index), shape, found);
         }
     }
     first_further(arrays, elements)
@@ -159,14 +155,26 @@ fn first_member<'t>(objects: Objects<'t>, members: &'t BTreeMap<String, Tree>) -
             None => !field.needed,
         };
         if !fits {
-            return Some(Part {
-                step: Step::Name(name),
-                wanted: Some(&field.shape),
-                found,
-            });
+            return part_at(Step::Name(name), &field.shape, found);
         }
     }
     first_surplus(objects, members)
+}
+
+/// The part that is missing, or that isn't of its shape; none where it is missing and nothing is of that shape, since then
+/// nothing is of the shape of the whole.
+fn part_at<'t>(step: Step<'t>, shape: &'t Shape, found: Option<&'t Tree>) -> Option<Part<'t>>
+    requires { IsMisfitOf (Some shape) found }
+    ensures { IfSome result (λ part. IsMisfitOf part.wanted part.found) }
+{
+    if found.is_none() && !inhabited(shape) {
+        return None;
+    }
+    Some(Part {
+        step,
+        wanted: Some(shape),
+        found,
+    })
 }
 
 /// The first field that mustn't be there.

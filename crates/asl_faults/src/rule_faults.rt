@@ -59,11 +59,24 @@ fn fault_inside(
             break;
         };
         if let Some(refusal) = refusal_inside(alloc, outline_of(alloc, inner.tree)?)? {
-            return fault_at(alloc, index, inner, refusal);
+            return fault_within(alloc, index, inner, refusal);
         }
         push_rules_in(index, inner, &mut rules)?;
     }
     Ok(Found::at(rule.spot))
+}
+
+/// What is wrong with a rule within a rule by itself, which is refused so.
+fn fault_within(
+    alloc: Global,
+    index: &Index<'_, '_>,
+    rule: Placed<'_>,
+    refusal: RuleRefusal,
+) -> Result<Found, OutOfMemory> {
+    match rule.member(index, "Comment") {
+        Some(comment) => Found::told(alloc, comment.spot, "A rule within a rule has no `Comment`"),
+        None => fault_at(alloc, index, rule, refusal),
+    }
 }
 
 /// Why a tree is no rule of a Choice, where it is none.
@@ -158,7 +171,7 @@ fn fault_at(
         }
     }
     match refusal {
-        RuleRefusal::NotARule => {
+        RuleRefusal::NotARule | RuleRefusal::UnknownOperator => {
             let sentence =
                 "A choice rule has `Variable` and one operator, or one of `And`, `Or` and `Not` alone";
             Ok(Found::said(rule.spot, String::from_str(alloc, sentence)?))

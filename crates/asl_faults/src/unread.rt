@@ -41,7 +41,9 @@ pub fn isnt_call(alloc: Global, text: &str) -> Result<&'static str, OutOfMemory>
         ),
         Err(CallRefusal::BadPath) => Ok("has an argument that isn't read as a reference path"),
         Ok(_) | Err(CallRefusal::Malformed) => {
-            Ok("isn't written as a call of an intrinsic function")
+            Ok(
+                "isn't read as a call of an intrinsic function: it isn't written as one, has a number that isn't whole, or has more than 32 calls in one another",
+            )
         }
     }
 }

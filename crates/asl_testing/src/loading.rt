@@ -307,7 +307,7 @@ fn machine_of<R: Files + Input + AllocGlobal>(rt: &R, path: &str) -> Result<Mach
     let text = text_of(rt, path)?;
     match read_definition(rt.alloc(), &text) {
         Ok(machine) => Ok(machine),
-        Err(fault) => Err(at(rt.alloc(), path, unfit_text(rt.alloc(), fault)?)?),
+        Err(fault) => Err(at(rt.alloc(), path, unfit_text(rt.alloc(), &text, fault)?)?),
     }
 }
 
@@ -318,7 +318,7 @@ fn declared_of<R: Files + Input + AllocGlobal>(rt: &R, path: &str) -> Result<Dec
     let text = text_of(rt, path)?;
     match read_declared_text(rt.alloc(), &text) {
         Ok(declared) => Ok(declared),
-        Err(fault) => Err(at(rt.alloc(), path, unfit_text(rt.alloc(), fault)?)?),
+        Err(fault) => Err(at(rt.alloc(), path, unfit_text(rt.alloc(), &text, fault)?)?),
     }
 }
 
@@ -378,7 +378,7 @@ fn unfit_tree(alloc: Global, text: &[u8], refusal: &TreeRefusal) -> Result<Unfit
 }
 
 /// That a text is refused as a definition or as declared shapes.
-fn unfit_text(alloc: Global, fault: RunFault) -> Result<Unfit, OutOfMemory> {
+fn unfit_text(alloc: Global, text: &[u8], fault: RunFault) -> Result<Unfit, OutOfMemory> {
     match fault {
         RunFault::OutOfMemory
         | RunFault::Text(
@@ -387,6 +387,12 @@ fn unfit_text(alloc: Global, fault: RunFault) -> Result<Unfit, OutOfMemory> {
                 ..
             },
         ) => Ok(Unfit::OutOfMemory),
+        RunFault::Text(
+            TextRefusal {
+                fault: TextFault::Tree(refusal),
+                ..
+            },
+        ) => unfit_tree(alloc, text, &refusal),
         fault => {
             let (_, line) = closing(alloc, &Closing::Fault(fault))?;
             Ok(Unfit::Why(String::from_str(alloc, line.trim_end())?))
