@@ -302,7 +302,7 @@ mentions_pushed table (e ∷ es) k f = ap (model.AndFieldShape (rc_str_bytes e.0
 pub no_fields_read : (several : Bool) (given : Option (List model.Shape)) (table : List model.Shape) → AreFieldsRead several given NoFields table []
 no_fields_read several given table = record { within = tt; spelled = no_field }
 
-fields_grown : (several : Bool) (given : Option (List model.Shape)) (fs : Fields) (old new : List model.Shape) (es : List (Name × NodeField)) → Keeps old new → AreFieldsRead several given fs old es → AreFieldsRead several given fs new es
+pub fields_grown : (several : Bool) (given : Option (List model.Shape)) (fs : Fields) (old new : List model.Shape) (es : List (Name × NodeField)) → Keeps old new → AreFieldsRead several given fs old es → AreFieldsRead several given fs new es
 fields_grown several given fs old new es keeps are =
     let kept : AreFieldsOf new (fields_at old es) es = fields_kept old new (fields_at old es) es keeps (record { within = are.within; same = refl }) in
     record { within = kept.within; spelled = subst (SpellFields several given fs) (sym kept.same) are.spelled }
@@ -321,7 +321,11 @@ field_read several given old new done left e es fs k f sorted keeps same are nam
 pub object_refers : (shapes : model.FieldShapes) (now : List model.Shape) (fields : BTreeMap Name NodeField) (extra : Bool) → AreFieldsOf now shapes fields.entries → RefersBelow (length now) (Object fields extra)
 object_refers shapes now fields extra are = record { each = are.within }
 
-pub object_read : (several : Bool) (given : Option (List model.Shape)) (object : ObjectLevel) (middle now new : List model.Shape) (fields : List (Name × NodeField)) (marked : BTreeMap Name NodeField) (n : ℕ) → AreFieldsRead several given object.properties middle fields → AreFieldsOf now (with_all_needed object.extra object.names (fields_at middle fields)) marked.entries → IsNumberOf new (shape_over now (Object marked object.extra)) n → AreObjectsRead several given (Some object) new (Some n)
-object_read several given object middle now new fields marked n are marks is =
-    let whole = ap (λ ms. model.ObjectsOf ms object.extra) (sym marks.same) ∙ sym (ap objects_of is.same) in
-    record { within = is.within; spelled = subst (SpellsObjects several given (Some object)) whole (with_properties are.spelled) }
+pub object_read : (several : Bool) (given : Option (List model.Shape)) (object : ObjectLevel) (middle new : List model.Shape) (fields : List (Name × NodeField)) (n : ℕ) → AreFieldsRead several given object.properties middle fields → IsNumberOf new (model.ObjectShape (with_all_needed object.extra object.names (fields_at middle fields)) object.extra) n → AreObjectsRead several given (Some object) new (Some n)
+object_read several given object middle new fields n are is =
+    record { within = is.within; spelled = subst (SpellsObjects several given (Some object)) (sym (ap objects_of is.same)) (with_properties are.spelled) }
+
+-- the node of an object whose fields are marked
+pub object_put : (shapes : model.FieldShapes) (now new : List model.Shape) (marked : BTreeMap Name NodeField) (extra : Bool) (n : ℕ) → AreFieldsOf now shapes marked.entries → IsNumberOf new (shape_over now (Object marked extra)) n → IsNumberOf new (model.ObjectShape shapes extra) n
+object_put shapes now new marked extra n marks is =
+    subst (λ s. IsNumberOf new s n) (ap (λ ms. model.ObjectShape ms extra) marks.same) is

@@ -6,7 +6,7 @@ ghost use Rattle.asl_model.specs.ShapeSpelling as model;
 ghost use Rattle.asl_shape.specs.Level as levels;
 ghost use Rattle.asl_shape.specs.LevelView.{level_view, list_view, object_view, texts};
 ghost use Rattle.asl_shape.specs.Spelled as trees;
-ghost use Rattle.asl_numbered.specs.Expansion.{shape_over, fields_at, RefersBelow, numbers_in, AreBelow, AreFieldsOf, Keeps};
+ghost use Rattle.asl_numbered.specs.Expansion.{shape_over, fields_at, RefersBelow, numbers_in, AreBelow, AreFieldsOf, IsNumberOf, Keeps};
 ghost use Rattle.asl_numbered.specs.Kinds.{IsProperNode};
 ghost use Rattle.asl_numbered.specs.Reading.{AreGiven, IsRead, IsReadOver, AreArraysRead, AreObjectsRead, IsReadRest, AreRead, AreFieldsRead, TellsOneOf};
 ghost use Rattle.asl_model.specs.References.{element_at, meant_by};
@@ -261,10 +261,8 @@ fn read_object(
     let Some(object) = object else {
         return Ok(None);
     };
-    let extra = object.extra;
-    let mut fields = read_properties(table, alloc, object.properties, given, several)?;
-    require_all(table, alloc, &object.required, extra, &mut fields)?;
-    Ok(Some(table.put(Node::Object { fields, extra })?))
+    let fields = read_properties(table, alloc, object.properties, given, several)?;
+    Ok(Some(put_object(table, alloc, fields, &object.required, object.extra)?))
 }
 
 // The fields that the properties mention, none of them needed.
@@ -319,6 +317,24 @@ fn read_members(
         drop(fields.insert(key, field)?);
     }
     Ok(fields)
+}
+
+/// The number of the shape of objects with these fields, of which those of these names are needed, too.
+pub(crate) fn put_object(
+    table: &mut Table,
+    alloc: Global,
+    mut fields: BTreeMap<RcStr, NodeField>,
+    needed: &[&String],
+    extra: bool,
+) -> Result<usize, OutOfMemory>
+    requires { AreBelow (length table.old) (numbers_in fields.entries) }
+    ensures number { IfOk result (IsNumberOf table.new (shape.ObjectShape
+        (model.with_all_needed extra (texts needed.now) (fields_at table.old fields.entries))
+        extra)) }
+    ensures keeps { Keeps table.old table.new }
+{
+    require_all(table, alloc, needed, extra, &mut fields)?;
+    table.put(Node::Object { fields, extra })
 }
 
 // Makes the fields of these names needed; those that aren't mentioned are added.

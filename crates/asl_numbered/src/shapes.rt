@@ -5,12 +5,13 @@ ghost use Rattle.asl_model.specs.Examples as examples;
 ghost use Rattle.asl_model.specs.Examples.{IsOutside};
 ghost use Rattle.asl_model.specs.Shape as model;
 ghost use Rattle.asl_model.specs.ShapeOrder as order;
-ghost use Rattle.asl_model.specs.ShapeSpelling.{SpellsShape, SpellsShapeV1};
+ghost use Rattle.asl_model.specs.ShapeSpelling.{SpellsShape, SpellsShapeV1, with_all_needed};
 ghost use Rattle.asl_model.specs.Tree as json;
+ghost use Rattle.asl_shape.specs.LevelView.{texts};
 ghost use Rattle.asl_shape.specs.Properness.{is_proper};
 ghost use Rattle.asl_shape.specs.View.{view};
 ghost use Rattle.asl_tree.specs.View.{view as tree_view};
-ghost use Rattle.asl_numbered.specs.Expansion.{shape_at, shape_over, AreBelow, AreDistinct, RefersBelow, IsNumberOf, Keeps};
+ghost use Rattle.asl_numbered.specs.Expansion.{shape_at, shape_over, fields_at, numbers_in, AreBelow, AreDistinct, RefersBelow, IsNumberOf, Keeps};
 ghost use Rattle.asl_numbered.specs.Kinds.{IsProperNode};
 ghost use Rattle.asl_numbered.specs.References.{shapes_given, SpellsWith, TellsOf, TellsFault};
 ghost use Rattle.asl_numbered.specs.TakenApart.{taken_apart, kinds_at, AreKindsAt};
@@ -23,10 +24,10 @@ use crate::expanding::expand;
 use crate::finding::Sought;
 use crate::joining::{Joined, join};
 use crate::kinds::{KindNumbers, NodeKinds, put_kinds, take_apart};
-use crate::node::Node;
+use crate::node::{Node, NodeField};
 use crate::outside::outside;
 use crate::pair::Pair;
-use crate::reading::read;
+use crate::reading::{put_object, read};
 use crate::table::Table;
 use asl_model::shape_laws::{
     examples_have_their_shapes, join_is_above_both, sub_is_exactly_inside, sub_means_inside,
@@ -36,7 +37,9 @@ use asl_shape::Shape;
 use asl_tree::{OutOfMemory, Tree};
 use indexmap::IndexMap;
 use std::alloc::Global;
+use std::collections::BTreeMap;
 use std::marker::Model;
+use std::rc::RcStr;
 
 /// Distinct shapes, each under a number, counted from 0. Contracts see the list of them. A number keeps its shape,
 /// whatever is added, and also where a call runs out of memory, which may leave further entries.
@@ -165,6 +168,24 @@ impl Shapes {
         ensures keeps { Keeps self.old self.new }
     {
         put_kinds(&mut self.table, self.alloc, kinds)
+    }
+
+    /// The number of the shape of objects with these fields, of which those of these names are needed, too: a name of none
+    /// of them is that of one more, of any value where other fields may be there, and of none where they may not. Refuses only
+    /// where an allocation was refused.
+    pub fn add_object(
+        &mut self,
+        fields: BTreeMap<RcStr, NodeField>,
+        needed: &[&String],
+        extra: bool,
+    ) -> Result<usize, OutOfMemory>
+        requires fields { AreBelow (length self.old) (numbers_in fields.entries) }
+        ensures number { IfOk result (IsNumberOf self.new (model.ObjectShape
+            (with_all_needed extra (texts needed.now) (fields_at self.old fields.entries))
+            extra)) }
+        ensures keeps { Keeps self.old self.new }
+    {
+        put_object(&mut self.table, self.alloc, fields, needed, extra)
     }
 
     /// The number of the shape. Refuses only where an allocation was refused.

@@ -6,17 +6,18 @@ use Rattle.std.specs.List.Sorted.{IsStrictlySortedBy}
 use Rattle.std.specs.Map.{keys_of}
 use Rattle.std.specs.String.{string_cmp}
 use Rattle.asl_tree.specs.declared.Tree.{Tree}
+use Rattle.asl_model.specs.Shape as shape
 use Rattle.asl_shape.specs.LevelView.{level_view, list_view, object_view, texts}
 use Rattle.asl_shape.specs.Spelled as trees
 use Rattle.asl_shape.proofs.Sizes.{level_size, list_size, smaller, element_smaller, member_smaller}
-use Rattle.asl_numbered.specs.Expansion.{fields_at, AreFieldsOf}
+use Rattle.asl_numbered.specs.Expansion.{fields_at, IsNumberOf}
 use Rattle.asl_model.specs.ShapeSpelling.{with_all_needed}
 use Rattle.asl_numbered.specs.declared.kinds.KindNumbers.{KindNumbers}
 use Rattle.asl_numbered.specs.declared.node.NodeField.{NodeField}
 use Rattle.asl_numbered.proofs.Appending.{shared_names}
 use Rattle.asl_numbered.specs.Reading.{IsRead, IsReadRest, AreObjectsRead, TellsOneOf}
 use Rattle.asl_numbered.specs.References.{shapes_given, numbers_given, list_inside, object_inside, each_of, values_of, TellsOf}
-use Rattle.asl_numbered.proofs.Readings.{given_kept, given_same, reference_read, reference_told, level_told, over_answer, over_refusal, one_told, one_left, one_right, element_there, none_read, number_read, list_refers, list_read, kinds_read, no_list_read, no_object_read, no_rest_read, rest_answer, member_there, no_fields_read, field_read, object_refers, object_read}
+use Rattle.asl_numbered.proofs.Readings.{given_kept, given_same, reference_read, reference_told, level_told, over_answer, over_refusal, one_told, one_left, one_right, element_there, none_read, number_read, list_refers, list_read, kinds_read, no_list_read, no_object_read, no_rest_read, rest_answer, member_there, no_fields_read, field_read, object_read}
 use Rattle.asl_numbered.proofs.reading.+read.Goals as goal
 use Rattle.asl_numbered.specs.Laws.{keeps_same, keeps_trans}
 
@@ -205,21 +206,16 @@ read_members-loop-name-preserved t c =
       step.1,
     )
 
-pub read_object-require_all-requires : goal.read_object-require_all-requires
-read_object-require_all-requires t c = c.in_ok-fields.ensures.fields.within
-
-pub read_object-put-requires-clause-refers : goal.read_object-put-requires-clause-refers
-read_object-put-requires-clause-refers t c = object_refers _ _ c.require_all.new.fields c.in-Some.object.extra c.in_ok-require_all.ensures.needed
+pub read_object-put_object-requires : goal.read_object-put_object-requires
+read_object-put_object-requires t c = c.in_ok-fields.ensures.fields.within
 
 pub read_object-returns-clause-number : goal.read_object-returns-clause-number
 read_object-returns-clause-number t c =
     let object = c.in-Some.object in
     let middle = c.read_properties.new.table in
     let fields = c.in_ok-fields.fields.entries in
-    let now = c.require_all.new.table in
-    let marked = c.require_all.new.fields in
-    let marks = subst (λ ns. AreFieldsOf now (with_all_needed object.extra (texts ns) (fields_at middle fields)) marked.entries) c.deref.ensures.value c.in_ok-require_all.ensures.needed in
-    rw c.in-Some.is (object_read c.args.several (shapes_given c.args.table.now c.args.given) (object_view object) middle now _ fields marked _ c.in_ok-fields.ensures.fields marks c.in_ok-put.ensures.number)
+    let is = subst (λ ns. IsNumberOf c.put_object.new.table (shape.ObjectShape (with_all_needed object.extra (texts ns) (fields_at middle fields)) object.extra) c.in_ok-put_object.field-0) c.deref.ensures.value c.in_ok-put_object.ensures.number in
+    rw c.in-Some.is (object_read c.args.several (shapes_given c.args.table.now c.args.given) (object_view object) middle _ fields _ c.in_ok-fields.ensures.fields is)
 
 pub read_properties-returns-in-None-clause-fields :
     goal.read_properties-returns-in-None-clause-fields
