@@ -2,11 +2,11 @@
 
 use crate::causes::Cause;
 use crate::flows::Explainer;
-use asl_flow::{PutRefusal, put_at};
 use asl_numbered::Shapes;
 use asl_path::{RefPath, Segment};
 use asl_phrases::{counted, front_of, noted, part_at};
 use asl_shape::Shape;
+use asl_shape_paths::{PutRefusal, put_at};
 use asl_states::Settings;
 use asl_tree::{OutOfMemory, quoted};
 use std::alloc::Global;

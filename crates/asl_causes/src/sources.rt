@@ -3,10 +3,10 @@
 use crate::causes::Cause;
 use crate::flows::Explainer;
 use crate::there::ITEM;
-use asl_flow::DoubtfulPath;
 use asl_numbered::Shapes;
 use asl_path::{RefPath, Segment};
 use asl_phrases::{Piece, cut, stretch_of};
+use asl_shape_paths::DoubtfulPath;
 use asl_states::{Kind, Settings, State};
 use asl_template::Template;
 use asl_tree::OutOfMemory;

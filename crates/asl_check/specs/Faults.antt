@@ -8,7 +8,7 @@ use Rattle.asl_model.specs.PathSpelling.{Spells, printed_path}
 use Rattle.asl_model.specs.Shape.{Shape}
 use Rattle.asl_model.specs.Tree.{Tree}
 use Rattle.asl_numbered.specs.Expansion.{shape_at}
-use Rattle.asl_flow.specs.Doubts.{doubtful_view}
+use Rattle.asl_shape_paths.specs.Doubts.{doubtful_view}
 use Rattle.asl_state_edges.specs.View.{finding_fault_view}
 use Rattle.asl_check.specs.declared.faults.Fault.{Fault}
 use Rattle.asl_check.specs.declared.faults.Shown.{Shown}

@@ -10,8 +10,8 @@ ghost use Rattle.asl_check.specs.Faults.{fault_view, shown_view, IsFaultBelow, I
 ghost use Rattle.asl_check.specs.Noting.{noted_breach};
 
 use crate::noting::Noted;
-use asl_flow::{DoubtfulPath, missing_at};
 use asl_numbered::Shapes;
+use asl_shape_paths::{DoubtfulPath, missing_at};
 use asl_state_edges::{Broken, FindingFault};
 use asl_tree::{OutOfMemory, Tree};
 use std::alloc::Global;

@@ -12,7 +12,7 @@ use Rattle.asl_draft_laws.specs.Drafts.{step_taken, taken_at}
 use Rattle.asl_draft_laws.specs.Resting.{FlowRests, Memory, StepRests}
 use Rattle.asl_numbered.specs.Expansion.{shape_at, Keeps}
 use Rattle.asl_numbered.specs.Laws.{kept_shape}
-use Rattle.asl_flow.specs.declared.doubts.DoubtfulPath.{DoubtfulPath}
+use Rattle.asl_shape_paths.specs.declared.doubts.DoubtfulPath.{DoubtfulPath}
 use Rattle.asl_state_edges.specs.View.{broken_view, destination_view, edge_view, example_of, finding_fault_view, step_view, steps_of, AreStepsBelow, IsBrokenBelow, IsStepBelow}
 use Rattle.asl_state_edges.specs.declared.faults.Broken.{Broken}
 use Rattle.asl_state_edges.specs.declared.found.Edge.{Edge}

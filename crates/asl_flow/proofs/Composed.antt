@@ -1,15 +1,12 @@
--- Numbers for the shapes of what stands in a list or a map, as they grow, and the shapes that are made of them.
-use Rattle.std.proofs.Common.{◌≡◌, ℕ, List, [], ◌∷◌, ◌++◌, length, map, true, String, Global, string_bytes, string_cmp, Vec, Result, refl, ap, ◌∙◌}
+-- Numbers for the shapes of what stands in a list or a map, as they grow.
+use Rattle.std.proofs.Common.{◌≡◌, ℕ, List, [], ◌∷◌, ◌++◌, length, map, true, String, Global, string_bytes, string_cmp, refl, ap, ◌∙◌}
 use Rattle.std.specs.BTreeMap.{insert_entry}
 use Rattle.std.specs.List.Sorted.{IsStrictlySortedBy}
 use Rattle.std.specs.Map.{keys_of}
-use Rattle.std.specs.Prelude.{IfOk}
 use Rattle.asl_model.specs.Shape as model
 use Rattle.asl_shape.specs.View.{shapes_of}
-use Rattle.asl_tree.specs.declared.OutOfMemory.{OutOfMemory}
-use Rattle.asl_numbered.specs.declared.node.Node.TheVariants.{List as Elements}
 use Rattle.asl_numbered.specs.declared.node.NodeField.{NodeField}
-use Rattle.asl_numbered.specs.Expansion.{shape_at, shapes_at, fields_at, shape_over, AreBelow, RefersBelow, AreNumbersOf, AreFieldsOf, Keeps, Shows}
+use Rattle.asl_numbered.specs.Expansion.{shape_at, shapes_at, fields_at, AreNumbersOf, AreFieldsOf, Keeps, Shows}
 use Rattle.asl_numbered.proofs.Appending.{names, shared_names, appended_by}
 use Rattle.asl_numbered.proofs.Growing.{numbers_push, numbers_kept, fields_kept}
 use Rattle.asl_numbered.specs.Laws.{below-append}
@@ -65,29 +62,3 @@ module _ {V : Type 0} (shape : V → model.Shape) where
       let now = fields_kept old new (needed_by shape before) fs keeps are in
       let last : gs ≡ fs ++ (k, f) ∷ [] = inserted ∙ appended_by string_bytes rc_str_bytes before e left fs k f sorted (same-names new fs before now.same) named in
       rw last (record { within = numbers_push (length new) fs k f now.within is.within; same = fields-push new fs k f before e now.same named needed is.same })
-
--- ---- numbers at hand
-
--- numbers of the table have their own shapes
-own-numbers : (table : List model.Shape) (ns : List ℕ) → AreBelow (length table) ns → AreNumbersOf table (shapes_at table ns) ns
-own-numbers table ns below = record { within = below; same = refl }
-
--- ---- closed lists
-
-module _ (old now : List model.Shape) (first : Vec ℕ Global) (rest : ℕ) (below : AreBelow (length old) first.items) (keeps : Keeps old now) (never : Shows now model.Never rest) where
-  still : AreNumbersOf now (shapes_at old first.items) first.items
-  still = numbers_kept old now (shapes_at old first.items) first.items keeps (own-numbers old first.items below)
-
-  -- the numbers of a closed list's node are in the table
-  pub closed_list_refers : RefersBelow (length now) (Elements first rest)
-  closed_list_refers = record { each = (never.within, still.within) }
-
-  -- and it is that of the lists with those first elements alone
-  pub closed_list_shape : shape_over now (Elements first rest) ≡ model.ArrayShape (shapes_at old first.items) model.Never
-  closed_list_shape = rw (still.same, never.same) refl
-
--- ---- the same shape
-
--- what shows a shape shows an equal one
-pub shows_equal : (table : List model.Shape) (s t : model.Shape) (r : Result ℕ OutOfMemory) → s ≡ t → IfOk r (Shows table s) → IfOk r (Shows table t)
-shows_equal table s t r e h = rw (← e) h

@@ -8,7 +8,7 @@ use Rattle.asl_model.specs.Path.{Segment}
 use Rattle.asl_model.specs.Shape.{Shape, inhabited}
 use Rattle.asl_model.specs.ShapeFlow.{DoubtfulPath, look, put, found, Doubt, MayBeMissing, MayFail, or_missing, reference_shape, call_shape, or_may_fail, doubts_at, doubts, element_doubts, field_doubts, filled_shape, unless_doubts, template_shape, FlowFault, MissingAt, FailsAt, MisfitAt, Flow, flow_then, doubt_fault, faults_of, template_flow, through_template, path_flow, through_path, placing_flow, through_placing, output_flow, result_flow, result_leaves, Leaving, WithResult, WithInput, Nothing, leaving, leave_by, leave}
 use Rattle.asl_model.specs.Template.{Template, Literal, FromPath, FromCall, ArrayTemplate, ObjectTemplate, Templates, NoTemplates, AndTemplate, FieldTemplates, NoFieldTemplates, AndFieldTemplate}
-use Rattle.asl_flow.proofs.DoubtfulPaths.{IsRefused, found_refused}
+use Rattle.asl_shape_paths.proofs.DoubtfulPaths.{IsRefused, found_refused}
 use Rattle.asl_flow.proofs.PutDoubts.{Told, all_append}
 
 -- the path of the doubt, if it is of one, is refused

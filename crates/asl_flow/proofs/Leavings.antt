@@ -6,11 +6,12 @@ use Rattle.asl_model.specs.Machine.{Settings}
 use Rattle.asl_model.specs.ShapeFlow as model
 use Rattle.asl_numbered.specs.Expansion.{shape_at, AreDistinct, IsNumberOf, Keeps}
 use Rattle.asl_numbered.specs.Laws.{kept_shape, own_number}
-use Rattle.asl_flow.specs.Doubts.{cause_at, doubtful_view, found_view, flow_view, IsFlowIn}
+use Rattle.asl_flow.specs.Doubts.{cause_at, flow_view, IsFlowIn}
+use Rattle.asl_shape_paths.specs.Doubts.{doubtful_view, found_view}
 use Rattle.asl_flow.specs.Leaving.{FlowsTo, IsStopped}
 use Rattle.asl_flow.specs.declared.doubts.Cause.{Cause}
 use Rattle.asl_flow.specs.declared.doubts.Doubt.{Doubt}
-use Rattle.asl_flow.specs.declared.doubts.DoubtfulPath.{DoubtfulPath}
+use Rattle.asl_shape_paths.specs.declared.doubts.DoubtfulPath.{DoubtfulPath}
 use Rattle.asl_flow.specs.declared.leaving.FlowFault.{FlowFault}
 
 abbrev pub Answer : Type 0

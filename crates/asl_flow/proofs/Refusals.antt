@@ -6,14 +6,15 @@ use Rattle.asl_model.specs.Shape.{Shape}
 use Rattle.asl_model.specs.ShapeFlow as model
 use Rattle.asl_tree.specs.declared.Tree.{Tree}
 use Rattle.asl_tree.specs.View.{view}
-use Rattle.asl_flow.specs.Counterexamples.{IsShownBy}
-use Rattle.asl_flow.specs.Doubts.{doubtful_view, cause_at, fault_of, flow_view, AreDoubtsBelow, IsCauseBelow, IsCauseIn, IsFlowIn}
+use Rattle.asl_shape_paths.specs.Counterexamples.{IsShownBy}
+use Rattle.asl_flow.specs.Doubts.{cause_at, fault_of, flow_view, AreDoubtsBelow, IsCauseBelow, IsCauseIn, IsFlowIn}
+use Rattle.asl_shape_paths.specs.Doubts.{doubtful_view}
 use Rattle.asl_flow.specs.Leaving.{first_fault}
 use Rattle.asl_flow.specs.TemplateAnswer.{told_at, named_fault, first_doubt, IsDoubted, IsFilled}
 use Rattle.asl_flow.specs.declared.doubts.Cause.{Cause}
 use Rattle.asl_flow.specs.declared.doubts.Cause.TheVariants.{MayBeMissing, MayFail, MayNotFit}
 use Rattle.asl_flow.specs.declared.doubts.Doubt.{Doubt}
-use Rattle.asl_flow.specs.declared.doubts.DoubtfulPath.{DoubtfulPath}
+use Rattle.asl_shape_paths.specs.declared.doubts.DoubtfulPath.{DoubtfulPath}
 use Rattle.asl_flow.specs.declared.leaving.FlowFault.{FlowFault}
 use Rattle.asl_flow.specs.declared.leaving.FlowFault.TheVariants as fault
 use Rattle.asl_flow.specs.declared.templates.TemplateShapeRefusal.{TemplateShapeRefusal}

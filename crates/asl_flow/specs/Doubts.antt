@@ -5,19 +5,10 @@ use Rattle.std.specs.declared.alloc.Global.{Global}
 use Rattle.asl_model.specs.Shape.{Shape}
 use Rattle.asl_model.specs.ShapeFlow as model
 use Rattle.asl_numbered.specs.Expansion.{shape_at}
-use Rattle.asl_flow.specs.declared.doubts.DoubtfulPath.{DoubtfulPath}
+use Rattle.asl_shape_paths.specs.Doubts.{doubtful_view}
 use Rattle.asl_flow.specs.declared.doubts.Cause.{Cause}
 use Rattle.asl_flow.specs.declared.doubts.Cause.TheVariants.{MayBeMissing, MayFail, MayNotFit}
 use Rattle.asl_flow.specs.declared.doubts.Doubt.{Doubt}
-
--- the path, and the shape of the number
-abbrev pub doubtful_view : List Shape → DoubtfulPath → model.DoubtfulPath
-doubtful_view table d = record { path = d.path.now; segment = d.segment; shape = shape_at table d.shape }
-
--- the shape that is found, or the doubtful path
-abbrev pub found_view : List Shape → Result ℕ DoubtfulPath → Result Shape model.DoubtfulPath
-found_view table (Ok n) = Ok (shape_at table n)
-found_view table (Err d) = Err (doubtful_view table d)
 
 -- the cause as a fault at that field
 abbrev pub cause_at : List Shape → List ℕ → Cause → model.FlowFault
@@ -43,11 +34,6 @@ IsCauseBelow bound MayNotFit = Unit {0}
 -- so for each of the doubts
 abbrev pub AreDoubtsBelow : ℕ → List Doubt → Type 0
 AreDoubtsBelow bound doubts = AllByRecursion (λ (d : Doubt). IsCauseBelow bound d.cause) doubts
-
--- what is found in the table: a shape of it, or a path that is doubtful in one
-pub record IsFoundIn (size : ℕ) (answer : Result ℕ DoubtfulPath) : Type 0 where
-  pub within : IfOk answer (λ n. n < size)
-  pub below : IfErr answer (λ d. d.shape < size)
 
 -- what comes through is in the table; or there are doubts, and all speak of shapes of it
 pub record IsFlowIn (size : ℕ) (answer : Result ℕ (Vec Doubt Global)) : Type 0 where

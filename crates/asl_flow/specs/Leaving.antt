@@ -3,7 +3,7 @@ use Rattle.std.specs.Prelude.{◌≡◌, ℕ, List, length, slice_get, Option, S
 use Rattle.std.specs.declared.alloc.Global.{Global}
 use Rattle.asl_model.specs.ShapeFlow as model
 use Rattle.asl_tree.specs.View.{view}
-use Rattle.asl_flow.specs.Counterexamples.{IsShownBy}
+use Rattle.asl_shape_paths.specs.Counterexamples.{IsShownBy}
 use Rattle.asl_flow.specs.Doubts.{flow_view, IsFlowIn}
 use Rattle.asl_flow.specs.declared.doubts.Doubt.{Doubt}
 use Rattle.asl_flow.specs.declared.leaving.FlowFault.{FlowFault}

@@ -1,16 +1,7 @@
 pub mod CallAnswer
-pub mod Changing
-pub mod Counterexamples
-pub mod Counting
 pub mod Doubts
 pub mod Elements
 pub mod Items
-pub mod Kinds
 pub mod Leaving
-pub mod Looking
-pub mod Narrowed
-pub mod Numbers
-pub mod Putting
-pub mod Settling
 pub mod Sources
 pub mod TemplateAnswer

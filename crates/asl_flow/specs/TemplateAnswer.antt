@@ -6,7 +6,7 @@ use Rattle.asl_model.specs.Names.{FieldName}
 use Rattle.asl_model.specs.Shape.{Shape}
 use Rattle.asl_model.specs.ShapeFlow as model
 use Rattle.asl_tree.specs.View.{view}
-use Rattle.asl_flow.specs.Counterexamples.{IsShownBy}
+use Rattle.asl_shape_paths.specs.Counterexamples.{IsShownBy}
 use Rattle.asl_flow.specs.Doubts.{fault_of, AreDoubtsBelow}
 use Rattle.asl_flow.specs.declared.doubts.Doubt.{Doubt}
 use Rattle.asl_flow.specs.declared.templates.TemplateShapeRefusal.{TemplateShapeRefusal}

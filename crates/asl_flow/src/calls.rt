@@ -9,12 +9,12 @@ ghost use Rattle.asl_model.specs.Shape as model;
 ghost use Rattle.asl_model.specs.ShapeFlow as flow;
 ghost use Rattle.asl_numbered.specs.Expansion.{shape_at, shapes_at, AreBelow, Keeps};
 
-use crate::composing::closed_list;
-use crate::kinds::{arrays_alone, kinds_of, some_array_or_object};
-use crate::numbers::{is_inhabited, put_node};
 use crate::references::Sources;
 use asl_intrinsic::{Arg, Call};
 use asl_numbered::{Node, Shapes};
+use asl_shape_paths::composing::closed_list;
+use asl_shape_paths::kinds::{arrays_alone, kinds_of, some_array_or_object};
+use asl_shape_paths::numbers::{is_inhabited, put_node};
 use asl_tree::OutOfMemory;
 use std::alloc::Global;
 

@@ -3,21 +3,9 @@ ghost use Rattle.std.specs.Prelude.{◌≡◌, ◌∷◌, [], ℕ, List, Err, If
 ghost use Rattle.asl_flow.specs.Doubts.{cause_at, flow_view, IsCauseBelow, IsFlowIn};
 ghost use Rattle.asl_model.specs.Shape as model;
 
-use asl_path::RefPath;
+use asl_shape_paths::DoubtfulPath;
 use asl_tree::OutOfMemory;
 use std::alloc::Global;
-
-/// A path that may name nothing in trees of the shape of that number; `segment` is the number of the first segment where
-/// that may be so, counted from 0.
-#[derive(Clone, Copy, Drop)]
-pub struct DoubtfulPath<'p> {
-    pub path: &'p RefPath,
-    pub segment: usize,
-    pub shape: usize,
-}
-
-/// The number of the shape that a path names in every tree of another, or the path as a doubtful one.
-pub type Found<'p> = Result<usize, DoubtfulPath<'p>>;
 
 /// What may keep a shape from coming through.
 #[derive(Clone, Copy, Drop)]

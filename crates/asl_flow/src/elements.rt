@@ -6,10 +6,10 @@ ghost use Rattle.asl_model.specs.Finding as model;
 ghost use Rattle.asl_model.specs.Shape as kinds;
 ghost use Rattle.asl_numbered.specs.Expansion.{shape_at, shapes_at, AreBelow, IsNumberOf, Keeps, Shows};
 
-use crate::composing::closed_list;
-use crate::kinds::arrays_alone;
-use crate::numbers::{is_inhabited, put_join, put_never, put_node};
 use asl_numbered::{Node, Shapes};
+use asl_shape_paths::composing::closed_list;
+use asl_shape_paths::kinds::arrays_alone;
+use asl_shape_paths::numbers::{is_inhabited, put_join, put_never, put_node};
 use asl_tree::OutOfMemory;
 use std::alloc::Global;
 

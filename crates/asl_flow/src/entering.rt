@@ -9,10 +9,10 @@ ghost use Rattle.asl_numbered.specs.Expansion.{shape_at, IsNumberOf, Keeps};
 ghost use Rattle.asl_template.specs.View as templates;
 
 use crate::doubts::Flow;
-use crate::numbers::{is_inhabited, put_never};
 use crate::references::Sources;
 use crate::steps::{fill, through_path, through_template};
 use asl_numbered::Shapes;
+use asl_shape_paths::numbers::{is_inhabited, put_never};
 use asl_states::Settings;
 use asl_template::Template;
 use asl_tree::OutOfMemory;

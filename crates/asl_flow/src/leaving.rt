@@ -8,15 +8,14 @@ ghost use Rattle.asl_flow.specs.Leaving.{FlowsTo, InputLeaves, IsStopped, Result
 ghost use Rattle.asl_numbered.specs.Expansion.{shape_at, IsNumberOf, Keeps};
 ghost use Rattle.asl_shape.specs.View.{view};
 
-use crate::counterexamples::counterexample_at;
 use crate::doubts::{Cause, Doubt, Flow, stopped};
-use crate::numbers::{are_inhabited, expand, is_inhabited, put_never};
-use crate::putting::{PutRefusal, put_at};
 use crate::steps::{through_path, through_template};
 use asl_model::shape_laws::leave_means_an_output;
 use asl_numbered::Shapes;
 use asl_path::RefPath;
 use asl_shape::Shape;
+use asl_shape_paths::numbers::{are_inhabited, expand, is_inhabited, put_never};
+use asl_shape_paths::{PutRefusal, counterexample_at, put_at};
 use asl_states::{Kind, Settings, State};
 use asl_tree::{OutOfMemory, Tree};
 use std::alloc::Global;

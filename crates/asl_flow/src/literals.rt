@@ -5,10 +5,10 @@ ghost use Rattle.asl_numbered.specs.Expansion.{IsNumberOf, AreNumbersOf, AreFiel
 ghost use Rattle.asl_shape.specs.View.{view};
 ghost use Rattle.asl_tree.specs.View as trees;
 
-use crate::composing::{closed_list, closed_object, set_field};
-use crate::numbers::{expand, put_node};
 use asl_numbered::{Node, NodeField, Shapes};
 use asl_shape::Shape;
+use asl_shape_paths::composing::{closed_list, closed_object, set_field};
+use asl_shape_paths::numbers::{expand, put_node};
 use asl_tree::{OutOfMemory, Tree};
 use std::alloc::Global;
 use std::collections::BTreeMap;

@@ -8,11 +8,11 @@ ghost use Rattle.asl_numbered.specs.Expansion.{shape_at, Keeps};
 ghost use Rattle.asl_shape.specs.View.{view};
 
 use crate::doubts::Cause;
-use crate::looking::find_at;
-use crate::numbers::put_node;
 use asl_numbered::{Node, Shapes};
 use asl_path::RefPath;
 use asl_shape::Shape;
+use asl_shape_paths::find_at;
+use asl_shape_paths::numbers::put_node;
 use asl_tree::OutOfMemory;
 
 /// The number of the shape of what a path or a call gives, or why there may be no value.

@@ -6,14 +6,14 @@ ghost use Rattle.asl_model.specs.ShapeFlow as model;
 ghost use Rattle.asl_numbered.specs.Expansion.{shape_at, Keeps};
 ghost use Rattle.asl_template.specs.View as templates;
 
-use crate::composing::closed_object;
 use crate::doubts::{Cause, Flow, stopped};
-use crate::looking::find_at;
-use crate::numbers::{is_inhabited, put_never};
 use crate::references::Sources;
 use crate::templates::fill_at;
 use asl_numbered::Shapes;
 use asl_path::RefPath;
+use asl_shape_paths::composing::closed_object;
+use asl_shape_paths::find_at;
+use asl_shape_paths::numbers::{is_inhabited, put_never};
 use asl_template::Template;
 use asl_tree::OutOfMemory;
 use std::alloc::Global;

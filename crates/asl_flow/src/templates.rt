@@ -16,15 +16,15 @@ ghost use Rattle.asl_shape.specs.View.{view};
 ghost use Rattle.asl_template.specs.View as templates;
 
 use crate::calls::call_shape;
-use crate::composing::{closed_list, closed_object, set_field};
-use crate::counterexamples::counterexample_at;
 use crate::doubts::{Cause, Doubt, Flow};
 use crate::literals::own_shape;
-use crate::numbers::{expand, is_inhabited, put_never};
 use crate::references::{Part, Sources};
 use asl_model::shape_laws::template_shape_means_a_value;
 use asl_numbered::{NodeField, Shapes};
 use asl_shape::Shape;
+use asl_shape_paths::composing::{closed_list, closed_object, set_field};
+use asl_shape_paths::counterexample_at;
+use asl_shape_paths::numbers::{expand, is_inhabited, put_never};
 use asl_template::Template;
 use asl_tree::{OutOfMemory, Tree, WantOfMemory};
 use std::alloc::Global;

@@ -5,7 +5,7 @@ use Rattle.std.specs.Prelude.{IfSome}
 use Rattle.asl_model.specs.Edges.{Walked}
 use Rattle.asl_model.specs.Missing.{counterexample}
 use Rattle.asl_model.specs.Shape.{Shape, Never}
-use Rattle.asl_flow.specs.declared.doubts.DoubtfulPath.{DoubtfulPath}
+use Rattle.asl_shape_paths.specs.declared.doubts.DoubtfulPath.{DoubtfulPath}
 use Rattle.asl_numbered.specs.Expansion.{shape_at, Keeps}
 use Rattle.asl_numbered.specs.Laws.{keeps_longer}
 use Rattle.asl_state_edges.specs.View.{example_of, step_view, steps_of, AreStepsBelow, IsStepBelow}

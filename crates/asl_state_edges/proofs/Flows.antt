@@ -1,9 +1,10 @@
 -- The walk over a shape on its way, and over what a path names.
 use Rattle.std.proofs.Common.{◌≡◌, ◌<◌, ℕ, List, length, Result, Ok, Err, Vec, Global, sym, ap, ◌∙◌, subst}
 use Rattle.std.specs.Prelude.{IfOk, IfErr}
-use Rattle.asl_flow.specs.Doubts.{doubtful_view, flow_view, found_view, AreDoubtsBelow, IsFlowIn, IsFoundIn}
+use Rattle.asl_flow.specs.Doubts.{flow_view, AreDoubtsBelow, IsFlowIn}
+use Rattle.asl_shape_paths.specs.Doubts.{doubtful_view, found_view, IsFoundIn}
 use Rattle.asl_flow.specs.declared.doubts.Doubt.{Doubt}
-use Rattle.asl_flow.specs.declared.doubts.DoubtfulPath.{DoubtfulPath}
+use Rattle.asl_shape_paths.specs.declared.doubts.DoubtfulPath.{DoubtfulPath}
 use Rattle.asl_model.specs.Edges.{Walked, breaks_missing, walk_then}
 use Rattle.asl_model.specs.Names.{FieldName}
 use Rattle.asl_model.specs.Shape.{Shape}

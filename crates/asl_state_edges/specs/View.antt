@@ -6,8 +6,8 @@ use Rattle.asl_model.specs.Finding as finding
 use Rattle.asl_model.specs.Missing.{counterexample}
 use Rattle.asl_model.specs.Shape.{Shape}
 use Rattle.asl_model.specs.Tree.{Tree}
-use Rattle.asl_flow.specs.Doubts.{doubtful_view}
-use Rattle.asl_flow.specs.declared.doubts.DoubtfulPath.{DoubtfulPath}
+use Rattle.asl_shape_paths.specs.Doubts.{doubtful_view}
+use Rattle.asl_shape_paths.specs.declared.doubts.DoubtfulPath.{DoubtfulPath}
 use Rattle.asl_numbered.specs.Expansion.{shape_at}
 use Rattle.asl_state_edges.specs.declared.faults.Broken.{Broken}
 use Rattle.asl_state_edges.specs.declared.faults.FindingFault.{FindingFault}

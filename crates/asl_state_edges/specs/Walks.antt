@@ -4,9 +4,10 @@ use Rattle.asl_model.specs.Edges.{Walked, Breaks, ToInput, ToOutput, ToTask, bre
 use Rattle.asl_model.specs.Finding.{CatchInput, OutputNotCertified, PayloadNotTaken, breach_of}
 use Rattle.asl_model.specs.Names.{FieldName, StateName}
 use Rattle.asl_model.specs.Shape.{Shape}
-use Rattle.asl_flow.specs.Doubts.{doubtful_view, fault_of, AreDoubtsBelow}
+use Rattle.asl_flow.specs.Doubts.{fault_of, AreDoubtsBelow}
+use Rattle.asl_shape_paths.specs.Doubts.{doubtful_view}
 use Rattle.asl_flow.specs.declared.doubts.Doubt.{Doubt}
-use Rattle.asl_flow.specs.declared.doubts.DoubtfulPath.{DoubtfulPath}
+use Rattle.asl_shape_paths.specs.declared.doubts.DoubtfulPath.{DoubtfulPath}
 use Rattle.asl_numbered.specs.Expansion.{shape_at}
 use Rattle.asl_state_edges.specs.View.{steps_of, AreStepsBelow}
 use Rattle.asl_state_edges.specs.declared.found.Step.{Step}

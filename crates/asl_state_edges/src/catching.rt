@@ -10,8 +10,9 @@ use crate::faults::FindingFault;
 use crate::found::Step;
 use crate::pushing::{push_broken, push_caught};
 use crate::walking::Walk;
-use asl_flow::{PutRefusal, error_output_at, put_at};
+use asl_flow::error_output_at;
 use asl_numbered::Shapes;
+use asl_shape_paths::{PutRefusal, put_at};
 use asl_states::Catcher;
 use asl_tree::OutOfMemory;
 

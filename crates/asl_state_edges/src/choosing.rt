@@ -9,8 +9,8 @@ use crate::faults::FindingFault;
 use crate::found::Step;
 use crate::pushing::{push_missing, push_unless};
 use crate::walking::Walk;
-use asl_flow::{let_through_at, settles_at};
 use asl_numbered::Shapes;
+use asl_shape_rules::{let_through_at, settles_at};
 use asl_states::{ChoiceRule, Target};
 use asl_tree::OutOfMemory;
 

@@ -3,10 +3,12 @@
 ghost use Rattle.std.specs.Prelude.{◌≡◌, ◌<◌, ℕ, List};
 ghost use Rattle.asl_model.specs.Finding.{breach_of, missing_breach, plain_breach};
 ghost use Rattle.asl_model.specs.Shape.{Shape};
-ghost use Rattle.asl_flow.specs.Doubts.{doubtful_view, fault_of, IsCauseBelow};
+ghost use Rattle.asl_flow.specs.Doubts.{fault_of, IsCauseBelow};
+ghost use Rattle.asl_shape_paths.specs.Doubts.{doubtful_view};
 ghost use Rattle.asl_state_edges.specs.View.{broken_view, finding_fault_view, IsBrokenBelow};
 
-use asl_flow::{Cause, Doubt, DoubtfulPath};
+use asl_flow::{Cause, Doubt};
+use asl_shape_paths::DoubtfulPath;
 
 /// What is wrong with a certificate, in the order in which the rules are looked at.
 #[derive(Clone, Copy, Drop)]

@@ -11,9 +11,10 @@ use crate::faults::FindingFault;
 use crate::found::Step;
 use crate::pushing::{push_broken, push_child, push_doubts, push_missing};
 use crate::walking::Walk;
-use asl_flow::{Elements, element_at, elements_of, find_at, item_input_at, outputs_at};
+use asl_flow::{Elements, element_at, elements_of, item_input_at, outputs_at};
 use asl_numbered::Shapes;
 use asl_path::RefPath;
+use asl_shape_paths::find_at;
 use asl_template::Template;
 use asl_tree::OutOfMemory;
 

@@ -9,7 +9,8 @@ ghost use Rattle.asl_model.specs.Machine.{ScopeOf, NoStates};
 
 use crate::faults::{FindingFault, broken_at, broken_by, missing_at};
 use crate::found::{Destination, Edge, Step};
-use asl_flow::{Doubt, DoubtfulPath};
+use asl_flow::Doubt;
+use asl_shape_paths::DoubtfulPath;
 use asl_states::Target;
 use asl_tree::OutOfMemory;
 

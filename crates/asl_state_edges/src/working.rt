@@ -13,8 +13,9 @@ use crate::found::Step;
 use crate::items::Children;
 use crate::pushing::{push_branches, push_missing, push_payload, push_unless};
 use crate::walking::Walk;
-use asl_flow::{find_at, is_only_integers, is_only_texts, list_at, literal_shape_at};
+use asl_flow::{list_at, literal_shape_at};
 use asl_numbered::Shapes;
+use asl_shape_paths::{find_at, is_only_integers, is_only_texts};
 use asl_states::{Delay, Kind};
 use asl_tree::OutOfMemory;
 

@@ -4,8 +4,9 @@ ghost use Rattle.std.specs.Prelude.{◌<◌, ◌≤◌, length};
 
 use crate::reason::Reason;
 use crate::truths::settled_truth;
-use asl_flow::{effective_at, let_through_at, settles_at};
+use asl_flow::effective_at;
 use asl_numbered::Shapes;
+use asl_shape_rules::{let_through_at, settles_at};
 use asl_states::{ChoiceRule, Kind, State};
 use asl_tree::OutOfMemory;
 use std::alloc::Global;

@@ -3,9 +3,10 @@
 ghost use Rattle.std.specs.Prelude.{◌<◌, ◌≤◌, length};
 
 use asl_choice::{Comparison, Operand, Test, ValueKind};
-use asl_flow::{find_at, let_through_at};
 use asl_numbered::{NodeKinds, Shapes};
 use asl_path::RefPath;
+use asl_shape_paths::find_at;
+use asl_shape_rules::let_through_at;
 use asl_tree::OutOfMemory;
 use std::alloc::Global;
 

@@ -1,6 +1,6 @@
 use Rattle.asl_numbered.specs.Laws.{its_number, keeps_trans, kept_shape, kept_within}
 use Rattle.asl_flow.proofs.ElementNumbers.{all_joined, one_joined}
-use Rattle.asl_flow.proofs.NumberedParts.{below_at}
+use Rattle.asl_shape_paths.proofs.NumberedParts.{below_at}
 use Rattle.asl_flow.proofs.elements.element_at.Goals as goal
 
 pub put_join-requires-clause-second : goal.put_join-requires-clause-second

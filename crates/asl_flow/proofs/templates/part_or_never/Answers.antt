@@ -1,4 +1,4 @@
-use Rattle.asl_flow.proofs.Composed.{shows_equal}
+use Rattle.asl_shape_paths.proofs.Shown.{shows_equal}
 use Rattle.asl_flow.proofs.PutDoubts.{part_shown, part_undoubted, never_for, part_doubted, on_ok}
 use Rattle.asl_flow.proofs.templates.part_or_never.Goals as goal
 

@@ -1,5 +1,0 @@
-use Rattle.std.proofs.Common.{length}
-use Rattle.asl_flow.proofs.putting.+build.Given as goal
-
-abbrev pub decreases-build : goal.decreases-build
-decreases-build l = length l.segments.now

@@ -1,0 +1,11 @@
+pub mod AloneParts
+pub mod DoubtfulPaths
+pub mod FoundPaths
+pub mod KindNumbers
+pub mod MissingTrees
+pub mod NumberedParts
+pub mod Puts
+pub mod Replaced
+pub mod ShapeParts
+pub mod Shown
+pub mod Stays
