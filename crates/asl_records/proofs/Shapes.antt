@@ -86,35 +86,35 @@ pub record IsReadAs (reading : Reading) (t : Tree) (s : Shape) : Type 0 where
   pub none_wrong : tree_misfits reading t ≡ []
   pub same : shape_of (plain reading.listed t) ≡ s
 
-read_so : (several : Bool) (table : List Shape) (numbers : Option (Bor (List ℕ))) (listed : Option (List Tree)) (t : Tree) (s : Shape) → Mean several table (numbers_given numbers) listed → SpellsWith several (shapes_given table numbers) t s → IsReadAs (reading_of several listed) t s
+read_so : (several : Bool) (table : List Shape) (numbers : Option (List ℕ)) (listed : Option (List Tree)) (t : Tree) (s : Shape) → Mean several table numbers listed → SpellsWith several (option_map (map (shape_at table)) numbers) t s → IsReadAs (reading_of several listed) t s
 read_so several table None None t s meant h =
     let spells = spells_plain several h in
     record { none_wrong = rw spells.none_wrong refl; same = spells.same }
 read_so several table None (Some trees) t s meant h = absurd meant
 read_so several table (Some ns) None t s meant h = absurd meant
 read_so several table (Some ns) (Some trees) t s meant h =
-    let given = map (shape_at table) ns.now in
-    let out = spells_out several trees given (spelled_in several table ns.now trees meant) h in
+    let given = map (shape_at table) ns in
+    let out = spells_out several trees given (spelled_in several table ns trees meant) h in
     record { none_wrong = rw (out.right, out.spells.none_wrong) refl; same = out.spells.same }
 
 -- a way to read has its own trees, and lists of types as it says
-as_said : (several : Bool) (table : List Shape) (numbers : Option (Bor (List ℕ))) (reading : Reading) → IsReading several table (numbers_given numbers) reading → reading_of several reading.listed ≡ reading
+as_said : (several : Bool) (table : List Shape) (numbers : Option (List ℕ)) (reading : Reading) → IsReading several table numbers reading → reading_of several reading.listed ≡ reading
 as_said several table numbers reading is = ap (λ b. reading_of b reading.listed) (sym is.same)
 
-read_as : (several : Bool) (table : List Shape) (numbers : Option (Bor (List ℕ))) (reading : Reading) (t : Tree) (s : Shape) → IsReading several table (numbers_given numbers) reading → SpellsWith several (shapes_given table numbers) t s → IsReadAs reading t s
+pub read_as : (several : Bool) (table : List Shape) (numbers : Option (List ℕ)) (reading : Reading) (t : Tree) (s : Shape) → IsReading several table numbers reading → SpellsWith several (option_map (map (shape_at table)) numbers) t s → IsReadAs reading t s
 read_as several table numbers reading t s is h =
     subst (λ r. IsReadAs r t s) (as_said several table numbers reading is) (read_so several table numbers reading.listed t s is.meant h)
 
 pub none_wrong_in : (several : Bool) (table new : List Shape) (numbers : Option (Bor (List ℕ))) (reading : Reading) (name field : List ℕ) (t : Tree) (n : ℕ) → IsReading several table (numbers_given numbers) reading
     → SpellsWith several (shapes_given table numbers) t (shape_at new n) → tree_complaints reading name field t ≡ []
 none_wrong_in several table new numbers reading name field t n means h =
-    let read = read_as several table numbers reading t (shape_at new n) means h in
+    let read = read_as several table (numbers_given numbers) reading t (shape_at new n) means h in
     ap (map (complaint_of name field)) read.none_wrong
 
 pub number_in : (several : Bool) (table new : List Shape) (numbers : Option (Bor (List ℕ))) (reading : Reading) (t : Tree) (n : ℕ) → IsReading several table (numbers_given numbers) reading
     → SpellsWith several (shapes_given table numbers) t (shape_at new n) → IsNumberOf new (shape_at new n) n → IsNumberOf new (tree_shape reading.listed t) n
 number_in several table new numbers reading t n means h number =
-    let read = read_as several table numbers reading t (shape_at new n) means h in
+    let read = read_as several table (numbers_given numbers) reading t (shape_at new n) means h in
     subst (λ s. IsNumberOf new s n) (sym read.same) number
 
 tells : (several : Bool) (table : List Shape) (numbers : Option (Bor (List ℕ))) (listed : Option (List Tree)) (refusal : NumberedRefusal) (name field : List ℕ) (t : Tree) → Mean several table (numbers_given numbers) listed → TellsOf several (shapes_given table numbers) t refusal
@@ -145,7 +145,7 @@ tells several table (Some ns) (Some trees) numbered.OutOfMemory name field t mea
 pub number_refusal_listed : (several : Bool) (table : List Shape) (numbers : Option (Bor (List ℕ))) (reading : Reading) (refusal : NumberedRefusal) (name field : List ℕ) (t : Tree) → IsReading several table (numbers_given numbers) reading
     → TellsOf several (shapes_given table numbers) t refusal → IfSome (fault_told refusal) (λ f. Contains (tree_complaints reading name field t) (complaint_of name field f))
 number_refusal_listed several table numbers reading refusal name field t means told =
-    subst (λ r. IfSome (fault_told refusal) (λ f. Contains (tree_complaints r name field t) (complaint_of name field f))) (as_said several table numbers reading means)
+    subst (λ r. IfSome (fault_told refusal) (λ f. Contains (tree_complaints r name field t) (complaint_of name field f))) (as_said several table (numbers_given numbers) reading means)
     (tells several table numbers reading.listed refusal name field t means.meant told)
 
 -- ---- what is told of a refusal

@@ -1,6 +1,7 @@
 -- Reading a certificate's fields from tokens up to the end, and the certificate that they make.
 use mathlib.Core.Bool.{beq}
-use Rattle.std.proofs.Common.{◌≡◌, ◌<◌, ℕ, Bool, true, false, List, [], ◌∷◌, ◌++◌, length, map, Option, Some, None, option_map, option_and_then, codes, pos, BTreeMap, Bor, Vec, Global, String, refl, ap, ap₂, ◌∙◌, subst, arith}
+use Rattle.std.proofs.Common.{◌≡◌, ◌<◌, ℕ, Bool, true, false, List, [], ◌∷◌, ◌++◌, length, map, Option, Some, None, option_map, option_and_then, codes, pos, BTreeMap, Bor, Vec, Global, String, refl, sym, ap, ap₂, ◌∙◌, subst, arith}
+use Rattle.std.specs.Prelude.{IfSome}
 use Rattle.json.specs.Json.{if_last, read_key, value}
 use Rattle.json.specs.Lex.{tokens}
 use Rattle.json.specs.Token.{Token}
@@ -11,27 +12,27 @@ use Rattle.serde_json.specs.Read.{of_json, read}
 use Rattle.asl_model.specs.Records.{Reading, certificate_reading, entries_from, listed_complaints, listed_in, state_from, StandsForCertificate}
 use Rattle.asl_model.specs.Shape.{Shape}
 use Rattle.asl_model.specs.Tree as model
-use Rattle.asl_numbered.specs.Expansion.{IsNumberOf, Keeps}
-use Rattle.asl_numbered.specs.References.{numbers_given}
-use Rattle.asl_records.specs.Listed.{IsReading}
+use Rattle.asl_numbered.specs.Expansion.{shape_at, AreBelow, Keeps}
+use Rattle.asl_numbered.specs.Reading.{IsRead}
+use Rattle.asl_numbered.specs.References.{numbers_given, shapes_given}
+use Rattle.asl_records.specs.Listed.{AreInTable, IsReading}
 use Rattle.asl_records.specs.Numbered.{AreWithin, numbered_view}
-use Rattle.asl_records.specs.Parts.{complaint_of, field_complaints, is_number, listed_row, reading_of, tree_complaints, tree_shape, trees_there, version_row}
-use Rattle.asl_records.specs.Values.{IsPart, IsValue}
+use Rattle.asl_records.specs.Parts.{complaint_of, field_complaints, is_number, listed_row, reading_of, shape_row, shape_there, trees_there, version_row}
 use Rattle.asl_records.specs.declared.records.NumberedCertificate.{NumberedCertificate}
 use Rattle.asl_records.proofs.Certified.{is_its_reading, none_wrong}
 use Rattle.asl_records.specs.Laws.{states_kept}
-use Rattle.asl_records.proofs.Meant.{IsLent, kept_items, lent_meant}
+use Rattle.asl_records.specs.Numbering.{AreStatesOf}
+use Rattle.asl_records.proofs.Meant.{IsLent, kept_items}
 use Rattle.asl_records.specs.declared.records.StateNumbers.{StateNumbers}
-use Rattle.asl_streams.specs.Fielded.{AreFields, AreStates, AreStatesRead, IsList, ReadsField, ReadsFields}
+use Rattle.asl_streams.specs.Fielded.{AreFields, AreStates, AreStatesRead, IsList, ReadsField, ReadsFields, shapes_listed}
+use Rattle.asl_streams.specs.Shaped.{IsOutput, IsOutputOf}
+use Rattle.asl_streams.specs.declared.outputs.Output.{Output}
+use Rattle.asl_streams.proofs.OutputShapes.{lent_numbers, listed_shapes, number_stands, stated_output}
 use Rattle.asl_streams.specs.Streamed.{SpellMembers}
 use Rattle.asl_streams.specs.declared.fields.Fields.{Fields}
 use Rattle.asl_streams.proofs.Opened.{object_opened}
-use Rattle.asl_records.proofs.Values.{some_part}
-use Rattle.asl_streams.proofs.Values.{same_misfits, same_shape}
-use Rattle.asl_tree.specs.View.{view}
-use Rattle.asl_tree.specs.declared.Tree.{Tree}
 use Rattle.asl_tree.proofs.Parsed.{converted_there}
-use Rattle.asl_streams.proofs.Streams.{GoesOn, all_over, begun as members_begun, one_more}
+use Rattle.asl_streams.proofs.Members.{GoesOn, all_over, begun as members_begun, one_more}
 
 -- ---- one after another
 
@@ -44,7 +45,7 @@ pub begun : (several : Bool) (before : List Token) (now : List Shape) → Begun 
 begun several before now = record {
   found = values.no_members;
   goes_on = members_begun 126 before;
-  are = record { version = refl; output = refl; listed = tt; states = tt; trees = model.NoFields; whole = refl; foreign = refl };
+  are = record { version = refl; output = tt; listed = tt; states = tt; trees = model.NoFields; whole = refl; foreign = refl };
 }
 
 pub gone_on : (several : Bool) (before : List Token) (start now : List Shape) (left s r : List Token) (name : List ℕ) (old new : Fields) → read_key left ≡ Some (Some name, s) → length r < length s → Begun several before start left old → ReadsField several name start now s r old new → Begun several before now r new
@@ -64,8 +65,16 @@ kept_meant several now None (Some ns) h = absurd h
 kept_meant several now (Some d) None h = absurd h
 kept_meant several now (Some d) (Some ns) h = rw h.is (record { same = refl; meant = h.meant })
 
-pub lent_means : (several : Bool) (now : List Shape) (found : Members) (fields : Fields) (lent : Option (Bor (List ℕ))) → IsLent fields.listed lent → AreFields several now found fields → IsReading several now (numbers_given lent) (reading_of several (trees_there (get_member (codes "shapes") found)))
-lent_means several now found fields lent is h = lent_meant several now fields.listed lent _ is (kept_meant several now _ fields.listed h.listed)
+pub given_there : (now : List Shape) (fields : Fields) (lent : Option (Bor (List ℕ))) → numbers_given lent ≡ kept_items fields.listed → IfSome fields.listed (λ ns. AreBelow (length now) ns.items) → AreInTable now lent
+given_there now fields None is below = record { below = tt }
+given_there now fields (Some ns) is below = record { below = by fields.listed is below }
+  where
+    by : (kept : Option (Vec ℕ Global)) → Some ns.now ≡ kept_items kept → IfSome kept (λ ms. AreBelow (length now) ms.items) → AreBelow (length now) ns.now
+    by None same h = absurd (cc)
+    by (Some ms) same h = let equal_lists : ns.now ≡ ms.items = cc in subst (AreBelow (length now)) (sym equal_lists) h
+
+pub given_means : (several : Bool) (now : List Shape) (found : Members) (fields : Fields) (lent : Option (Bor (List ℕ))) → numbers_given lent ≡ kept_items fields.listed → AreFields several now found fields → IsReading several now (numbers_given lent) (reading_of several (trees_there (get_member (codes "shapes") found)))
+given_means several now found fields lent is h = subst (λ ns. IsReading several now ns (reading_of several (trees_there (get_member (codes "shapes") found)))) (sym is) (kept_meant several now _ fields.listed h.listed)
 
 -- ---- the certificate
 
@@ -87,42 +96,54 @@ stated_there : (several : Bool) (now : List Shape) (trees : Option (List model.T
 stated_there several now trees None es h = absurd h
 stated_there several now trees (Some d) es h = (d, refl, h)
 
-module _ (several : Bool) (start now : List Shape) (found : Members) (fields : Fields) (output : Tree) (n : ℕ) (h : AreFields several start found fields) (keeps : Keeps start now) where
+-- what the output's number shows where the numbers of the listed shapes are lent
+pub output_shown : (several : Bool) (start now : List Shape) (fields : Fields) (output : Output) (n : ℕ) (lent : Option (Bor (List ℕ))) → IsLent fields.listed lent → ((t : model.Tree) → IsOutputOf several (shapes_given start lent) start t output → IsRead several (shapes_given start lent) t now n)
+    → (t : model.Tree) → IsOutputOf several (shapes_listed start fields) start t output → IsRead several (shapes_listed start fields) t now n
+output_shown several start now fields output n lent is read t shows =
+    let same = listed_shapes start fields (numbers_given lent) (lent_numbers fields.listed lent is) in
+    subst (λ g. IsRead several g t now n) same (read t (subst (λ g. IsOutputOf several g start t output) (sym same) shows))
+
+module _ (several : Bool) (start now : List Shape) (found : Members) (fields : Fields) (output : Output) (n : ℕ) (states : BTreeMap (String Global) StateNumbers) (there : fields.output ≡ Some output) (stated : fields.states ≡ Some states) (h : AreFields several start found fields) (keeps : Keeps start now)
+    (read : (t : model.Tree) → IsOutputOf several (shapes_listed start fields) start t output → IsRead several (shapes_listed start fields) t now n) where
   abbrev trees : Option (List model.Tree)
   trees = trees_there (get_member (codes "shapes") found)
 
-  module _ (states : BTreeMap (String Global) StateNumbers) (there : fields.output ≡ Some output) (stated : fields.states ≡ Some states) where
-    abbrev made : NumberedCertificate
-    made = record { shapes = now; output = n; states = states }
+  abbrev made : NumberedCertificate
+  made = record { shapes = now; output = n; states = states }
 
-    read_states : (d : Data) × (get_member (codes "states") found ≡ Some d) × AreStatesRead several start trees d states.entries
-    read_states = stated_there several start trees (get_member (codes "states") found) states.entries (rw stated at h.states)
+  read_states : (d : Data) × (get_member (codes "states") found ≡ Some d) × AreStatesRead several start trees d states.entries
+  read_states = stated_there several start trees (get_member (codes "states") found) states.entries (rw stated at h.states)
 
-    output_there : (d : Data) × (get_member (codes "output") found ≡ Some d) × IsValue (view output) d
-    output_there = some_part (view output) (get_member (codes "output") found) (subst (λ o. IsPart (option_map view o) (get_member (codes "output") found)) there h.output)
+  read_output : (n < length now) × (field_complaints (reading_of several trees) [] (shape_row (codes "output") true) (get_member (codes "output") found) ≡ []) × (shape_at now n ≡ shape_there trees (get_member (codes "output") found))
+  read_output =
+      let kept = kept_items fields.listed in
+      let o = stated_output several (shapes_listed start fields) start (get_member (codes "output") found) output (subst (IsOutput several (shapes_listed start fields) start (get_member (codes "output") found)) there h.output) in
+      let shown = read o.2.tree o.2.is in
+      number_stands several start now kept (reading_of several trees) (get_member (codes "output") found) o.0 o.2.tree n (kept_meant several start (get_member (codes "shapes") found) fields.listed h.listed) o.1 o.2.value
+      (subst (λ g. IsRead several g o.2.tree now n) (sym (listed_shapes start fields kept refl)) shown)
 
-    pub stands : several ≡ is_number (pos 2) (get_member (codes "version") found) → ((reading : Reading) → field_complaints reading [] version_row (get_member (codes "version") found) ≡ [])
-        → tree_complaints (reading_of several trees) [] (codes "output") (view output) ≡ [] → IsNumberOf now (tree_shape trees (view output)) n → StandsForCertificate (values.object found) (numbered_view made)
-    stands version right fits number =
-        let v = values.object found in
-        let reading = reading_of several (listed_in found) in
-        let its : reading ≡ certificate_reading found = is_its_reading several v found refl version in
-        let s = read_states in
-        let states_there : get_member (codes "states") found ≡ Some (values.object s.2.found) = s.1 ∙ ap Some s.2.is in
-        let kept = states_kept start now keeps (entries_from (state_from trees) s.2.found) states.entries s.2.same in
-        let d = output_there in
-        let fitting = ap (map (complaint_of [] (codes "output"))) (same_misfits reading d.0 (view output) d.2) ∙ fits in
-        record {
-          whole = rw h.whole refl;
-          none_wrong = subst (λ r. listed_complaints r v ≡ []) its (none_wrong reading v found refl h.foreign
-              (right reading)
-              (list_right several start (listed_in found) (get_member (codes "shapes") found) _ h.listed)
-              (rw (d.1, states_there) (ap₂ (λ xs ys. xs ++ ys) fitting s.2.right)));
-          same = rw (d.1, states_there, same_shape trees d.0 (view output) d.2, number.same, kept.same) refl;
-        }
+  kept_states : AreStatesOf now (entries_from (state_from trees) read_states.2.found) states.entries
+  kept_states = states_kept start now keeps (entries_from (state_from trees) read_states.2.found) states.entries read_states.2.same
 
-    pub within : IsNumberOf now (tree_shape trees (view output)) n → AreWithin made
-    within number = record { output = number.within; states = (states_kept start now keeps (entries_from (state_from trees) read_states.2.found) states.entries read_states.2.same).below }
+  pub stands : several ≡ is_number (pos 2) (get_member (codes "version") found) → ((reading : Reading) → field_complaints reading [] version_row (get_member (codes "version") found) ≡ []) → StandsForCertificate (values.object found) (numbered_view made)
+  stands version right =
+      let v = values.object found in
+      let reading = reading_of several (listed_in found) in
+      let its : reading ≡ certificate_reading found = is_its_reading several v found refl version in
+      let s = read_states in
+      let o = read_output in
+      let states_there : get_member (codes "states") found ≡ Some (values.object s.2.found) = s.1 ∙ ap Some s.2.is in
+      record {
+        whole = rw h.whole refl;
+        none_wrong = subst (λ r. listed_complaints r v ≡ []) its (none_wrong reading v found refl h.foreign
+            (right reading)
+            (list_right several start (listed_in found) (get_member (codes "shapes") found) _ h.listed)
+            (ap₂ (λ xs ys. xs ++ ys) o.1 (rw states_there s.2.right)));
+        same = rw (states_there, o.2, kept_states.same) refl;
+      }
+
+  pub within : AreWithin made
+  within = record { output = read_output.0; states = kept_states.below }
 
 -- ---- the whole text
 

@@ -1,7 +1,15 @@
+pub mod Declaring
+pub mod Emptied
 pub mod Fielded
+pub mod Found
 pub mod Lists
+pub mod Members
 pub mod Opened
+pub mod OutputShapes
 pub mod Put
 pub mod PutFields
+pub mod SpelledShapes
+pub mod StateParts
 pub mod Streams
+pub mod Unlisted
 pub mod Values

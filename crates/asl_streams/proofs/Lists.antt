@@ -13,24 +13,20 @@ use Rattle.asl_model.specs.References.{spelled_out}
 use Rattle.asl_model.specs.Shape.{Shape}
 use Rattle.asl_model.specs.ShapeSpelling.{shape_of, shape_faults}
 use Rattle.asl_model.specs.Tree.{Tree, Trees, NoTrees, AndTree}
-use Rattle.asl_numbered.specs.Expansion.{shape_at, AreBelow, IsNumberOf, Keeps}
+use Rattle.asl_numbered.specs.Expansion.{shape_at, AreBelow, Keeps}
+use Rattle.asl_numbered.specs.References.{shapes_given}
 use Rattle.asl_numbered.specs.Laws.{below-append, keeps_same, keeps_trans, kept_numbers, kept_shapes}
-use Rattle.asl_records.specs.Listed.{AreInTable, AreMeant, ForReading, IsReading}
-use Rattle.asl_records.specs.Parts.{complaint_of, reading_of, tree_complaints, tree_shape}
+use Rattle.asl_records.specs.Listed.{AreInTable, AreMeant, IsReading}
+use Rattle.asl_records.specs.Parts.{reading_of}
 use Rattle.asl_records.specs.Values.{AreItems}
-use Rattle.asl_records.proofs.Lists.{none_mapped}
+use Rattle.asl_records.proofs.Shapes.{read_as}
 use Rattle.asl_records.proofs.Trees.{pushed_right, right_tree}
+use Rattle.asl_streams.specs.Shaped.{ReadsShape, in_front}
 use Rattle.asl_streams.specs.Streamed.{ReadsList, SpellItems}
 use Rattle.asl_streams.proofs.Values.{same_misfits, same_plain, value_spelled}
-use Rattle.asl_tree.specs.Parsed.{spelled}
 use Rattle.asl_tree.proofs.Parsed.{converted_there}
 
--- these elements, and the others behind them
-abbrev front : List Data → Items → Items
-front [] rest = rest
-front (d ∷ ds) rest = values.item d (front ds rest)
-
-front_push : (ds : List Data) (d : Data) (rest : Items) → front (ds ++ d ∷ []) rest ≡ front ds (values.item d rest)
+pub front_push : (ds : List Data) (d : Data) (rest : Items) → in_front (ds ++ d ∷ []) rest ≡ in_front ds (values.item d rest)
 front_push [] d rest = refl
 front_push (e ∷ ds) d rest = ap (values.item e) (front_push ds d rest)
 
@@ -44,33 +40,33 @@ with_item : (j : json.Json) (d : Data) (o : Option (json.Items × List Token)) �
 with_item j d None e = refl
 with_item j d (Some p) e = rw e (mapped_twice d p.1 (of_items p.0))
 
-pushed : (ds : List Data) (d : Data) (o : Option (Items × List Token)) → parse_map (front ds) (parse_map (values.item d) o) ≡ parse_map (front (ds ++ d ∷ [])) o
+pushed : (ds : List Data) (d : Data) (o : Option (Items × List Token)) → parse_map (in_front ds) (parse_map (values.item d) o) ≡ parse_map (in_front (ds ++ d ∷ [])) o
 pushed ds d None = refl
 pushed ds d (Some p) = ap (λ es. Some (es, p.1)) (sym (front_push ds d p.0))
 
-nothing : (o : Option (Items × List Token)) → o ≡ parse_map (front []) o
+pub nothing : (o : Option (Items × List Token)) → o ≡ parse_map (in_front []) o
 nothing None = refl
 nothing (Some p) = refl
 
 -- elements that were found, and what the tokens that are left add to them
-record GoesOn (levels : ℕ) (before left : List Token) (found : List Data) : Type 0 where
-  turns : ℕ
-  enough : length left ≤ turns
-  less : length left ≤ length before
-  same : converted of_items (items (value levels) (length before) before) ≡ parse_map (front found) (converted of_items (items (value levels) turns left))
+pub record GoesOn (levels : ℕ) (before left : List Token) (found : List Data) : Type 0 where
+  pub turns : ℕ
+  pub enough : length left ≤ turns
+  pub less : length left ≤ length before
+  pub same : converted of_items (items (value levels) (length before) before) ≡ parse_map (in_front found) (converted of_items (items (value levels) turns left))
 
-one_more : (levels : ℕ) (d : Data) (before left r : List Token) (found : List Data) → after_end_array left ≡ None → converted of_json (value levels left) ≡ Some (d, r) → length r < length left → GoesOn levels before left found → GoesOn levels before r (found ++ d ∷ [])
+pub one_more : (levels : ℕ) (d : Data) (before left r : List Token) (found : List Data) → after_end_array left ≡ None → converted of_json (value levels left) ≡ Some (d, r) → length r < length left → GoesOn levels before left found → GoesOn levels before r (found ++ d ∷ [])
 one_more levels d before left r found going e shorter h =
     let j = converted_there of_json (value levels left) d r e in
     record {
       turns = h.turns - 1;
       enough = omega (arith, h.enough);
       less = omega (arith, h.less, shorter);
-      same = h.same ∙ ap (parse_map (front found)) (ap (converted of_items) (items_more (value levels) h.turns left r j.0 (omega (arith, h.enough)) going j.1) ∙ with_item j.0 d _ j.2) ∙ pushed found d _;
+      same = h.same ∙ ap (parse_map (in_front found)) (ap (converted of_items) (items_more (value levels) h.turns left r j.0 (omega (arith, h.enough)) going j.1) ∙ with_item j.0 d _ j.2) ∙ pushed found d _;
     }
 
-all_over : (levels : ℕ) (before left r : List Token) (found : List Data) → after_end_array left ≡ Some r → GoesOn levels before left found → SpellItems levels before r (front found values.no_items)
-all_over levels before left r found end h = h.same ∙ ap (λ o. parse_map (front found) (converted of_items o)) (items_end (value levels) h.turns left r h.enough end)
+pub all_over : (levels : ℕ) (before left r : List Token) (found : List Data) → after_end_array left ≡ Some r → GoesOn levels before left found → SpellItems levels before r (in_front found values.no_items)
+all_over levels before left r found end h = h.same ∙ ap (λ o. parse_map (in_front found) (converted of_items o)) (items_end (value levels) h.turns left r h.enough end)
 
 -- ---- listed shapes
 
@@ -83,9 +79,9 @@ module _ (several : Bool) (start : List Shape) (levels : ℕ) (before : List Tok
     pub keeps : Keeps start now
     meant : AreMeant several now ns trees
     below : AreBelow (length now) ns
-    whole : (rest : Items) (ts : Trees) → AreItems ts rest → (all : Trees) × AreItems all (front found rest)
-    wrong : (rest : Items) → listed_misfits several [] (front found rest) ≡ listed_misfits several trees rest
-    listed : (rest : Items) → listed_after [] (front found rest) ≡ listed_after trees rest
+    whole : (rest : Items) (ts : Trees) → AreItems ts rest → (all : Trees) × AreItems all (in_front found rest)
+    wrong : (rest : Items) → listed_misfits several [] (in_front found rest) ≡ listed_misfits several trees rest
+    listed : (rest : Items) → listed_after [] (in_front found rest) ≡ listed_after trees rest
 
   abbrev no_trees : List Tree
   no_trees = []
@@ -113,19 +109,18 @@ module _ (several : Bool) (start : List Shape) (levels : ℕ) (before : List Tok
   means_these : (now : List Shape) (left : List Token) (ns : List ℕ) (lent : Bor (List ℕ)) → lent.now ≡ ns → (h : Lists now left ns) → IsReading several now (Some lent.now) (reading_of several (Some h.trees))
   means_these now left ns lent same h = record { same = refl; meant = subst (λ ms. AreMeant several now ms h.trees) (sym same) h.meant }
 
-  pub gone_on : (name field : List ℕ) (now new : List Shape) (left r : List Token) (ns more : List ℕ) (lent : Bor (List ℕ)) (t : Tree) (n : ℕ) → lent.now ≡ ns → Lists now left ns → after_end_array left ≡ None → converted spelled (value levels left) ≡ Some (t, r) → length r < length left → Keeps now new
-      → ForReading several now (Some lent) (λ reading. tree_complaints reading name field t ≡ []) → ForReading several now (Some lent) (λ reading. IsNumberOf new (tree_shape reading.listed t) n) → more ≡ ns ++ n ∷ [] → Lists new r more
-  gone_on name field now new left r ns more lent t n same h going e shorter keeps right is made =
-      let read = value_spelled (value levels left) t r e in
+  pub gone_on : (now new : List Shape) (left r : List Token) (ns more : List ℕ) (lent : Bor (List ℕ)) (n : ℕ) → lent.now ≡ ns → Lists now left ns → after_end_array left ≡ None → ReadsShape several (shapes_given now (Some lent)) levels left r new n → length r < length left → Keeps now new → more ≡ ns ++ n ∷ [] → Lists new r more
+  gone_on now new left r ns more lent n same h going shown shorter keeps made =
+      let t = shown.tree in
+      let read = value_spelled (value levels left) t r shown.spelled in
       let d = read.value in
       let reading = reading_of several (Some h.trees) in
-      let means = means_these now left ns lent same h in
-      let number = is.each reading means in
+      let plainly = read_as several now (Some lent.now) reading t (shape_at new n) (means_these now left ns lent same h) shown.read.spelled in
       let plain = spelled_out h.trees t in
-      let within : n < length new = number.within in
-      let one : shape_of plain ≡ shape_at new n = sym number.same in
+      let within : n < length new = shown.read.within in
+      let one : shape_of plain ≡ shape_at new n = plainly.same in
       let earlier : map shape_of h.trees ≡ map (shape_at new) ns = h.meant.shapes ∙ sym (kept_shapes now new ns keeps h.below) in
-      let none : tree_misfits reading t ≡ [] = none_mapped (complaint_of name field) (tree_misfits reading t) (right.each reading means) in
+      let none : tree_misfits reading t ≡ [] = plainly.none_wrong in
       record {
         found = h.found ++ d ∷ [];
         goes_on = one_more levels d before left r h.found going read.read shorter h.goes_on;
@@ -150,7 +145,7 @@ module _ (several : Bool) (start : List Shape) (levels : ℕ) (before : List Tok
 
   pub over : (now : List Shape) (left r : List Token) (ns : List ℕ) → Lists now left ns → after_end_array left ≡ Some r → ReadsList several now levels before r ns
   over now left r ns h end = record {
-    found = front h.found values.no_items;
+    found = in_front h.found values.no_items;
     spelled = all_over levels before left r h.found end h.goes_on;
     elements = (h.whole values.no_items NoTrees refl).0;
     whole = (h.whole values.no_items NoTrees refl).1;

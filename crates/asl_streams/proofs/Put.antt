@@ -1,5 +1,5 @@
 -- What is read of members stays right where one more is put among them.
-use Rattle.std.proofs.Common.{◌≡◌, ℕ, List, [], ◌∷◌, ◌++◌, length, String, Global, string_bytes, string_cmp, Ordering, Less, Equal, Greater, nat_cmp, refl, sym, ap, ap₂, ◌∙◌, subst}
+use Rattle.std.proofs.Common.{◌≡◌, ℕ, List, [], ◌∷◌, ◌++◌, length, map, String, Global, string_bytes, string_cmp, Ordering, Less, Equal, Greater, nat_cmp, refl, sym, ap, ap₂, ◌∙◌, subst}
 use Rattle.std.specs.BTreeMap.{insert_entry}
 use Rattle.std.specs.Cmp.Lexicographic.{slice_cmp}
 use Rattle.std.specs.List.{AllByRecursion}
@@ -42,14 +42,12 @@ right_put reading rows k d (values.member l e ms) right all =
 abbrev Entry : Type 0
 Entry = String Global × StateNumbers
 
-abbrev Shown : Type 0
-Shown = List (List ℕ × StateShapes)
-
-abbrev put_shown : List ℕ → StateShapes → Shown → Shown
+-- what is seen of each entry, one more among it
+abbrev pub put_shown : {A : Type 0} → List ℕ → A → List (List ℕ × A) → List (List ℕ × A)
 put_shown k s [] = (k, s) ∷ []
 put_shown k s (e ∷ es) = match_ordering (slice_cmp nat_cmp k e.0) ((k, s) ∷ e ∷ es) ((e.0, s) ∷ es) (e ∷ put_shown k s es)
 
-from_put : (f : Data → StateShapes) (k : List ℕ) (d : Data) (ms : Members) → entries_from f (values.put k d ms) ≡ put_shown k (f d) (entries_from f ms)
+pub from_put : {A : Type 0} (f : Data → A) (k : List ℕ) (d : Data) (ms : Members) → entries_from f (values.put k d ms) ≡ put_shown k (f d) (entries_from f ms)
 from_put f k d values.no_members = refl
 from_put f k d (values.member l e ms) = go (slice_cmp nat_cmp k l) (from_put f k d ms)
   where
@@ -60,16 +58,16 @@ from_put f k d (values.member l e ms) = go (slice_cmp nat_cmp k l) (from_put f k
     go Equal further = refl
     go Greater further = ap (λ es. (l, f e) ∷ es) further
 
-numbered_put : (table : List Shape) (k : String Global) (s : StateNumbers) (es : List Entry) → numbered_entries table (insert_entry string_cmp es k s) ≡ put_shown (string_bytes k) (numbers_view table s) (numbered_entries table es)
-numbered_put table k s [] = refl
-numbered_put table k s (e ∷ es) = go (string_cmp k e.0) (numbered_put table k s es)
+pub seen_put : {A X : Type 0} (see : X → A) (k : String Global) (x : X) (es : List (String Global × X)) → map (λ e. (string_bytes e.0, see e.1)) (insert_entry string_cmp es k x) ≡ put_shown (string_bytes k) (see x) (map (λ e. (string_bytes e.0, see e.1)) es)
+seen_put see k x [] = refl
+seen_put see k x (e ∷ es) = go (string_cmp k e.0) (seen_put see k x es)
   where
-    go : (o : Ordering) → numbered_entries table (insert_entry string_cmp es k s) ≡ put_shown (string_bytes k) (numbers_view table s) (numbered_entries table es)
-        → numbered_entries table (match_ordering o ((k, s) ∷ e ∷ es) ((e.0, s) ∷ es) (e ∷ insert_entry string_cmp es k s))
-        ≡ match_ordering o ((string_bytes k, numbers_view table s) ∷ numbered_entries table (e ∷ es)) ((string_bytes e.0, numbers_view table s) ∷ numbered_entries table es) ((string_bytes e.0, numbers_view table e.1) ∷ put_shown (string_bytes k) (numbers_view table s) (numbered_entries table es))
+    go : (o : Ordering) → map (λ f. (string_bytes f.0, see f.1)) (insert_entry string_cmp es k x) ≡ put_shown (string_bytes k) (see x) (map (λ f. (string_bytes f.0, see f.1)) es)
+        → map (λ f. (string_bytes f.0, see f.1)) (match_ordering o ((k, x) ∷ e ∷ es) ((e.0, x) ∷ es) (e ∷ insert_entry string_cmp es k x))
+        ≡ match_ordering o ((string_bytes k, see x) ∷ (string_bytes e.0, see e.1) ∷ map (λ f. (string_bytes f.0, see f.1)) es) ((string_bytes e.0, see x) ∷ map (λ f. (string_bytes f.0, see f.1)) es) ((string_bytes e.0, see e.1) ∷ put_shown (string_bytes k) (see x) (map (λ f. (string_bytes f.0, see f.1)) es))
     go Less further = refl
     go Equal further = refl
-    go Greater further = ap (λ xs. (string_bytes e.0, numbers_view table e.1) ∷ xs) further
+    go Greater further = ap (λ xs. (string_bytes e.0, see e.1) ∷ xs) further
 
 below_put : (bound : ℕ) (k : String Global) (s : StateNumbers) (es : List Entry) → AreNumbersBelow bound s → AllByRecursion (λ (e : Entry). AreNumbersBelow bound e.1) es → AllByRecursion (λ (e : Entry). AreNumbersBelow bound e.1) (insert_entry string_cmp es k s)
 below_put bound k s [] one all = (one, tt)
@@ -85,5 +83,5 @@ pub states_put : (table : List Shape) (f : Data → StateShapes) (k : List ℕ) 
     → AreStatesOf table (entries_from f (values.put k d ms)) (insert_entry string_cmp es name s)
 states_put table f k d ms name s es named one all = record {
   below = record { each = below_put (length table) name s es one.below all.below.each };
-  same = numbered_put table name s es ∙ ap₂ (λ n x. put_shown n x (numbered_entries table es)) named one.same ∙ ap (put_shown k (f d)) all.same ∙ sym (from_put f k d ms);
+  same = seen_put (numbers_view table) name s es ∙ ap₂ (λ n x. put_shown n x (numbered_entries table es)) named one.same ∙ ap (put_shown k (f d)) all.same ∙ sym (from_put f k d ms);
 }

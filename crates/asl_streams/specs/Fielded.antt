@@ -10,12 +10,13 @@ use Rattle.asl_model.specs.Records.{certificate_rows, entries_complaints, entrie
 use Rattle.asl_model.specs.Shape.{Shape}
 use Rattle.asl_model.specs.Tree as model
 use Rattle.asl_model.specs.Tree.{Tree}
-use Rattle.asl_numbered.specs.Expansion.{AreBelow}
+use Rattle.asl_numbered.specs.Expansion.{shape_at, AreBelow}
 use Rattle.asl_records.specs.Listed.{AreMeant}
 use Rattle.asl_records.specs.Numbering.{AreStatesOf}
 use Rattle.asl_records.specs.Parts.{foreign_complaints, reading_of, trees_there}
 use Rattle.asl_records.specs.Values.{AreMembers, IsPart}
 use Rattle.asl_records.specs.declared.records.StateNumbers.{StateNumbers}
+use Rattle.asl_streams.specs.Shaped.{IsOutput}
 use Rattle.asl_streams.specs.Streamed.{SpellMembers}
 use Rattle.asl_streams.specs.declared.fields.Fields.{Fields}
 use Rattle.asl_tree.specs.View.{view}
@@ -52,10 +53,14 @@ AreStates several now trees None (Some entries) = ⊥
 AreStates several now trees (Some stated) None = ⊥
 AreStates several now trees (Some stated) (Some entries) = AreStatesRead several now trees stated entries
 
+-- the shapes that are listed, where any are
+abbrev pub shapes_listed : List Shape → Fields → Option (List Shape)
+shapes_listed now fields = option_map (λ ns. map (shape_at now) ns.items) fields.listed
+
 -- the members that were found are these fields
 pub record AreFields (several : Bool) (now : List Shape) (found : Members) (fields : Fields) : Type 0 where
   pub version : IsPart (option_map view fields.version) (get_member (codes "version") found)
-  pub output : IsPart (option_map view fields.output) (get_member (codes "output") found)
+  pub output : IsOutput several (shapes_listed now fields) now (get_member (codes "output") found) fields.output
   pub listed : IsList several now (get_member (codes "shapes") found) (option_map (λ ns. ns.items) fields.listed)
   pub states : AreStates several now (trees_there (get_member (codes "shapes") found)) (get_member (codes "states") found) (option_map (λ m. m.entries) fields.states)
   pub trees : model.Fields

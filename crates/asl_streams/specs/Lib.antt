@@ -1,2 +1,5 @@
+pub mod Declaring
+pub mod Entered
 pub mod Fielded
+pub mod Shaped
 pub mod Streamed

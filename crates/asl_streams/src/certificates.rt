@@ -8,7 +8,7 @@ ghost use Rattle.asl_records.specs.Numbered.{AreWithin, numbered_view};
 ghost use Rattle.asl_streams.specs.Fielded.{AreFields};
 
 use crate::fields::{Fields, next_fields};
-use crate::unread::{Unread, no_part};
+use crate::unread::Unread;
 use asl_numbered::Shapes;
 use asl_records::{NumberedCertificate, Reader, read_version};
 use asl_tree::OutOfMemory;
@@ -16,9 +16,9 @@ use json::{Reader as Tokens, Scratch, Token};
 use std::alloc::Global;
 
 /// The certificate that a JSON text stands for, with its shapes in a table, each distinct one once. The table may have
-/// further shapes. It is read entry by entry: of the text one state's entry at a time is a tree, and the output's shape.
+/// further shapes. It is read shape by shape: of the text no more is a tree at a time than a keyword's value in one of them.
 /// None where it isn't read so, which says nothing of the text: it may be no certificate, or one in which the list of shapes
-/// stands behind the states, or a value breaks a rule whose name comes again, or the version is 2 and neither the first nor
+/// stands behind the states or comes twice, or a value breaks a rule whose name comes again, or the version is 2 and neither the first nor
 /// the last field.
 ///
 /// Refused only where an allocation was refused.
@@ -94,14 +94,12 @@ fn certificate_of(
         several,
         listed: fields.listed.as_deref(),
     };
-    match record.read_number(&mut shapes, "output", &output) {
-        Ok(output) => Ok(NumberedCertificate {
-            shapes,
-            output,
-            states,
-        }),
-        Err(fault) => Err(no_part(fault)),
-    }
+    let output = output.number(record, &mut shapes)?;
+    Ok(NumberedCertificate {
+        shapes,
+        output,
+        states,
+    })
 }
 
 /// The certificate that a text stands for, where it is of that version.

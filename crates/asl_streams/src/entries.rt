@@ -4,10 +4,11 @@ ghost use Rattle.asl_numbered.specs.Expansion.{Keeps};
 ghost use Rattle.asl_records.specs.Listed.{AreInTable};
 ghost use Rattle.asl_streams.specs.Streamed.{ReadsList, ReadsStates};
 
-use crate::unread::{Unread, no_part, no_tree};
+use crate::shapes::next_shape;
+use crate::states::next_state;
+use crate::unread::Unread;
 use asl_numbered::Shapes;
-use asl_records::{Reader, StateNumbers, read_state};
-use asl_tree::next_tree;
+use asl_records::{Reader, StateNumbers};
 use json::Reader as Tokens;
 use std::alloc::Global;
 use std::collections::BTreeMap;
@@ -30,16 +31,8 @@ pub(crate) fn next_states(
         match tokens.next_key() {
             Ok(Some(name)) => {
                 let name = String::from_str(reader.alloc, name)?;
-                let tree = match next_tree(reader.alloc, tokens, levels) {
-                    Ok(tree) => tree,
-                    Err(refusal) => return Err(no_tree(refusal)),
-                };
-                let read = read_state(reader, shapes, &name, &tree);
-                drop(tree);
-                match read {
-                    Ok(state) => drop(states.insert(name, state)?),
-                    Err(fault) => return Err(no_part(fault)),
-                }
+                let state = next_state(reader, tokens, levels, shapes)?;
+                drop(states.insert(name, state)?);
             }
             Ok(None) => return Ok(states),
             Err(_) => return Err(Unread::Whole),
@@ -62,22 +55,14 @@ pub(crate) fn next_listed(
 {
     let mut numbers = Vec::new(alloc);
     'listed: while !tokens.take_end_array() {
-        let tree = match next_tree(alloc, tokens, levels) {
-            Ok(tree) => tree,
-            Err(refusal) => return Err(no_tree(refusal)),
-        };
         let record = Reader {
             alloc,
             name: "",
             several,
             listed: Some(&numbers),
         };
-        let read = record.read_number(shapes, "shapes", &tree);
-        drop(tree);
-        match read {
-            Ok(number) => numbers.push(number)?,
-            Err(fault) => return Err(no_part(fault)),
-        }
+        let number = next_shape(record, tokens, levels, shapes)?;
+        numbers.push(number)?;
     }
     Ok(numbers)
 }

@@ -1,10 +1,12 @@
 //! The fields of a certificate, read from tokens one after another.
-ghost use Rattle.std.specs.Prelude.{◌<◌, Bool, List, codes, length, IfOk, IfSome, OnOk};
+ghost use Rattle.std.specs.Prelude.{◌≡◌, ◌<◌, Bool, List, codes, length, option_map, IfOk, IfSome, OnOk};
 ghost use Rattle.asl_model.specs.Shape.{Shape};
 ghost use Rattle.asl_numbered.specs.Expansion.{AreBelow, Keeps};
+ghost use Rattle.asl_numbered.specs.References.{numbers_given};
 ghost use Rattle.asl_streams.specs.Fielded.{ReadsField, ReadsFields};
 
 use crate::entries::{next_listed, next_states};
+use crate::outputs::{Output, next_output};
 use crate::unread::{Unread, no_tree};
 use asl_numbered::Shapes;
 use asl_records::{Reader, StateNumbers};
@@ -23,13 +25,13 @@ const PART_LEVELS: usize = 125;
 pub(crate) struct Fields {
     pub(crate) version: Option<Tree>,
     pub(crate) listed: Option<Vec<usize>>,
-    pub(crate) output: Option<Tree>,
+    pub(crate) output: Option<Output>,
     pub(crate) states: Option<BTreeMap<String, StateNumbers>>,
 }
 
 impl Fields {
-    /// Reads the tree of the field of that name; the last one of a name stays. A list of shapes is read in front of the states
-    /// alone, in which references mean it.
+    /// Reads the field of that name; the last one of a name stays. A list of shapes is read in front of the states alone, in
+    /// which references mean it, and only once.
     fn read_next(
         &mut self,
         alloc: Global,
@@ -46,7 +48,7 @@ impl Fields {
     {
         match name {
             "version" => self.read_version(alloc, tokens),
-            "output" => self.read_output(alloc, tokens),
+            "output" => self.read_output(alloc, several, tokens, shapes),
             "shapes" => self.read_shapes(alloc, several, tokens, shapes),
             "states" => self.read_states(alloc, several, tokens, shapes),
             _ => Err(Unread::Whole),
@@ -68,19 +70,36 @@ impl Fields {
         }
     }
 
-    fn read_output(&mut self, alloc: Global, tokens: &mut Tokens<'_>) -> Result<(), Unread>
-        ensures read { IfOk result (λ _. (several : Bool) (table : List Shape)
-            → ReadsField several (codes "output") table table tokens.old tokens.new
-            self.old self.new) }
-        ensures shorter { OnOk result (length tokens.new < length tokens.old) }
+    /// Reads shapes in which references mean those that are listed.
+    fn reader(&self, alloc: Global, several: bool) -> Reader<'_>
+        ensures several { result.several ≡ several }
+        ensures listed { numbers_given result.listed
+            ≡ option_map (λ ns. ns.items) self.now.listed }
     {
-        match next_tree(alloc, tokens, FIELD_LEVELS) {
-            Ok(tree) => {
-                self.output = Some(tree);
-                Ok(())
-            }
-            Err(refusal) => Err(no_tree(refusal)),
+        Reader {
+            alloc,
+            name: "",
+            several,
+            listed: self.listed.as_deref(),
         }
+    }
+
+    fn read_output(
+        &mut self,
+        alloc: Global,
+        several: bool,
+        tokens: &mut Tokens<'_>,
+        shapes: &mut Shapes,
+    ) -> Result<(), Unread>
+        requires listed { IfSome self.old.listed (λ ns. AreBelow (length shapes.old) ns.items) }
+        ensures read { IfOk result (λ _. ReadsField several (codes "output") shapes.old shapes.new
+            tokens.old tokens.new self.old self.new) }
+        ensures shorter { OnOk result (length tokens.new < length tokens.old) }
+        ensures keeps { Keeps shapes.old shapes.new }
+    {
+        let reader = self.reader(alloc, several);
+        self.output = Some(next_output(reader, tokens, FIELD_LEVELS, shapes)?);
+        Ok(())
     }
 
     fn read_shapes(
@@ -95,7 +114,7 @@ impl Fields {
         ensures shorter { OnOk result (length tokens.new < length tokens.old) }
         ensures keeps { Keeps shapes.old shapes.new }
     {
-        if self.states.is_some() {
+        if self.states.is_some() || self.listed.is_some() {
             return Err(Unread::Whole);
         }
         let Some(Token::BeginArray) = tokens.next() else {
@@ -121,13 +140,8 @@ impl Fields {
         let Some(Token::BeginObject) = tokens.next() else {
             return Err(Unread::Whole);
         };
-        let record = Reader {
-            alloc,
-            name: "",
-            several,
-            listed: self.listed.as_deref(),
-        };
-        self.states = Some(next_states(record, tokens, PART_LEVELS, shapes)?);
+        let reader = self.reader(alloc, several);
+        self.states = Some(next_states(reader, tokens, PART_LEVELS, shapes)?);
         Ok(())
     }
 }

@@ -1,10 +1,16 @@
-//! Certificates read from the tokens of their texts (RFC 8259), entry by entry: no tree of the whole text stands in
-//! memory, but those of the output's shape and of one state's entry, or one listed shape, at a time.
+//! Certificates and declared shapes read from the tokens of their texts (RFC 8259), shape by shape, into a table: no tree of a whole text or of a
+//! whole shape stands in memory, but those of a shape's keywords other than `properties`.
 #![tactic(auto)]
 
 mod certificates;
+mod declarations;
 mod entries;
 mod fields;
+mod outputs;
+mod shapes;
+mod spellings;
+mod states;
 mod unread;
 
 pub use certificates::read_streamed;
+pub use declarations::read_streamed_declared;

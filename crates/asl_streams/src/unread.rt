@@ -2,7 +2,8 @@
 
 ghost use Rattle.std.specs.Prelude.{◌≡◌};
 
-use asl_records::ReadFault;
+use asl_numbered::NumberedRefusal;
+use asl_shape::ShapeRefusal;
 use asl_tree::{TreeRefusal, WantOfMemory};
 
 /// Why a text isn't read entry by entry.
@@ -32,10 +33,21 @@ pub(crate) fn no_tree(refusal: TreeRefusal) -> Unread {
     }
 }
 
-/// Why a part isn't read.
-pub(crate) fn no_part(fault: ReadFault) -> Unread {
-    match fault {
-        ReadFault::Record(_) => Unread::Whole,
-        ReadFault::OutOfMemory => Unread::OutOfMemory,
+/// Why a shape isn't read.
+pub(crate) fn no_shape(refusal: ShapeRefusal) -> Unread {
+    match refusal {
+        ShapeRefusal::OutOfMemory => Unread::OutOfMemory,
+        ShapeRefusal::NotAShape
+        | ShapeRefusal::Keyword
+        | ShapeRefusal::BadType
+        | ShapeRefusal::MinItems => Unread::Whole,
+    }
+}
+
+/// The same, where references may stand in it.
+pub(crate) fn no_number(refusal: NumberedRefusal) -> Unread {
+    match refusal {
+        NumberedRefusal::OutOfMemory => Unread::OutOfMemory,
+        NumberedRefusal::Shape(_) | NumberedRefusal::BadNumber => Unread::Whole,
     }
 }

@@ -5,13 +5,15 @@ use Rattle.serde_json.specs.Data.{Data}
 use Rattle.serde_json.specs.Read.{read}
 use Rattle.asl_model.specs.Machine.{Scope}
 use Rattle.asl_model.specs.Certificate.{Declared}
-use Rattle.asl_model.specs.Records.{StandsForCertificate}
+use Rattle.asl_model.specs.Records.{StandsForCertificate, StandsForDeclared}
 use Rattle.asl_model.specs.StandsFor.{Complaint}
 use Rattle.asl_model.specs.Json.{ReadsAsValue}
 use Rattle.asl_model.specs.Texts.{Which, DefinitionText, DeclaredText, CertificateText, TextFault, NotJson, NotWhole, BadDefinition, BadRecord, BadAnswer, NoMemory, definition_no_json, definition_complaint, declared_no_json, declared_not_whole, declared_complaint, certificate_no_json, certificate_not_whole, certificate_complaint, definition_refused, declared_refused, certificate_refused, IsNoJson, ReadsAsMachine, ReadsAsDeclared, ReadsAsCertificate}
 use Rattle.asl_machine.specs.Refusal.{IsRefused as IsRefusedValue, without_memory, for_broken_rule}
 use Rattle.asl_records.specs.Numbered.{numbered_view}
 use Rattle.asl_records.specs.Refusal.{IsDeclaredRefusal, IsCertificateRefusal}
+use Rattle.asl_records.specs.View.{declared_view}
+use Rattle.asl_records.specs.declared.records.Declared.{Declared as CodeDeclared}
 use Rattle.asl_records.specs.declared.records.NumberedCertificate.{NumberedCertificate}
 use Rattle.asl_records.specs.declared.refusals.ReadFault.{ReadFault}
 use Rattle.asl_records.specs.declared.refusals.ReadFault.TheVariants as kept
@@ -75,12 +77,18 @@ pub refused-certificate : (text : List ℕ) (v : Data) (fault : ReadFault) → R
 refused-certificate text v (kept.Record refusal) reads h = rw h.1 (certificate_fault (certificate_complaint reads h.2))
 refused-certificate text v kept.OutOfMemory reads h = certificate_no_memory
 
--- ---- a certificate that is read entry by entry
+-- ---- a certificate that is read shape by shape
 
 pub read_streamed : (text : List ℕ) (found : Option NumberedCertificate) → IsUtf8 text → IfSome found (λ certificate. (v : Data) × (read text ≡ Some v) × StandsForCertificate v (numbered_view certificate))
     → IfSome found (λ certificate. ReadsAsCertificate text (numbered_view certificate))
 read_streamed text None utf8 h = tt
 read_streamed text (Some certificate) utf8 h = record { value = h.0; reads = (utf8, h.1); stands = h.2 }
+
+-- so declared shapes
+pub read_streamed_declared : (text : List ℕ) (found : Option CodeDeclared) → IsUtf8 text → IfSome found (λ declared. (v : Data) × (read text ≡ Some v) × StandsForDeclared v (declared_view declared))
+    → IfSome found (λ declared. ReadsAsDeclared text (declared_view declared))
+read_streamed_declared text None utf8 h = tt
+read_streamed_declared text (Some declared) utf8 h = record { value = h.0; reads = (utf8, h.1); stands = h.2 }
 
 -- ---- which of the three texts
 

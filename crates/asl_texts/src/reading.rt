@@ -19,7 +19,7 @@ use crate::refusals::{TextFault, TextRefusal, Which};
 use asl_machine::{DefFault, DefRefusal, Machine};
 use asl_records::{Declared, NumberedCertificate, ReadFault, read_declared, read_numbered};
 use asl_run::Answer;
-use asl_streams::read_streamed;
+use asl_streams::{read_streamed, read_streamed_declared};
 use asl_tree::{OutOfMemory, Tree, TreeRefusal};
 use serde_json::Value;
 use std::alloc::Global;
@@ -46,6 +46,9 @@ pub(crate) fn declared_text(alloc: Global, text: &[u8]) -> Result<Declared, Text
     ensures declared { IfOk result (λ declared. ReadsAsDeclared text.now (declared_view declared)) }
     ensures refused { IfErr result (IsRefusedAs DeclaredText (RefusesDeclared text.now)) }
 {
+    if let Some(declared) = streamed_declared(alloc, text)? {
+        return Ok(declared);
+    }
     let which = Which::Declared;
     let tree = tree_text(alloc, which, text)?;
     match read_declared(alloc, &tree) {
@@ -53,6 +56,25 @@ pub(crate) fn declared_text(alloc: Global, text: &[u8]) -> Result<Declared, Text
         Err(fault) => Err(TextRefusal {
             which,
             fault: record_fault(fault),
+        }),
+    }
+}
+
+/// The declared shapes that a text stands for, where they can be read shape by shape. What is wrong with a text that isn't read
+/// so is told by a reading of the whole.
+fn streamed_declared(alloc: Global, text: &[u8]) -> Result<Option<Declared>, TextRefusal>
+    ensures declared { IfOk result (λ found. IfSome found
+        (λ declared. ReadsAsDeclared text.now (declared_view declared))) }
+    ensures refused { IfErr result (IsRefusedAs DeclaredText (RefusesDeclared text.now)) }
+{
+    let Ok(text) = str::from_utf8(text) else {
+        return Ok(None);
+    };
+    match read_streamed_declared(alloc, text) {
+        Ok(found) => Ok(found),
+        Err(OutOfMemory) => Err(TextRefusal {
+            which: Which::Declared,
+            fault: TextFault::OutOfMemory,
         }),
     }
 }
@@ -81,7 +103,7 @@ pub(crate) fn certificate_text(
     }
 }
 
-/// The certificate that a text stands for, where it can be read entry by entry. What is wrong with a text that isn't read so is
+/// The certificate that a text stands for, where it can be read shape by shape. What is wrong with a text that isn't read so is
 /// told by a reading of the whole.
 fn streamed_certificate(
     alloc: Global,

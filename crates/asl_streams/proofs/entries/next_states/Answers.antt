@@ -1,10 +1,6 @@
-use Rattle.std.proofs.Common.{◌≡◌, [], Some, None, subst, ◌∙◌, arith}
+use Rattle.std.proofs.Common.{◌≡◌, Some, None, arith}
 use Rattle.json.specs.Json.{read_key}
 use Rattle.json.proofs.Grammar.{read_key-shorter}
-use Rattle.asl_model.specs.Records.{object_complaints, state_rows}
-use Rattle.asl_records.specs.Listed.{ForReading}
-use Rattle.asl_records.specs.Values.{For, IsValue}
-use Rattle.asl_tree.specs.View.{view}
 use Rattle.asl_records.proofs.Meant.{still_there}
 use Rattle.asl_streams.proofs.Streams.{states_begun, states_gone_on, states_over, states_shorter}
 use Rattle.asl_streams.proofs.entries.next_states.Goals as goal
@@ -15,8 +11,8 @@ states-init c = states_begun c.args.reader.several c.args.reader.listed c.args.s
 pub returns-in_err-name-in-Ok-Some-clause-keeps : goal.returns-in_err-name-in-Ok-Some-clause-keeps
 returns-in_err-name-in-Ok-Some-clause-keeps c = c.states.invariant.keeps
 
-pub read_state-read-requires : goal.read_state-read-requires
-read_state-read-requires c = record { listed = still_there c.args.shapes.now c.states.shapes c.states.invariant.keeps c.args.reader.listed c.requires.listed }
+pub next_state-requires : goal.next_state-requires
+next_state-requires c = record { listed = still_there c.args.shapes.now c.states.shapes c.states.invariant.keeps c.args.reader.listed c.requires.listed }
 
 pub states-smaller : goal.states-smaller
 states-smaller c =
@@ -24,7 +20,7 @@ states-smaller c =
     let s = c.next_key.new.self in
     let named : read_key c.states.tokens ≡ Some (Some k, s) = grind arith in
     let less = read_key-shorter c.states.tokens (Some k) s named in
-    let lesser = c.in-Ok.ensures.shorter in
+    let lesser = c.in_ok-state-in-Ok-Some.ensures.shorter in
     omega (arith, less, lesser)
 
 pub states-preserved : goal.states-preserved
@@ -32,12 +28,10 @@ states-preserved c =
     let k = c.in-Ok-Some.name.now in
     let s = c.next_key.new.self in
     let named : read_key c.states.tokens ≡ Some (Some k, s) = grind arith in
-    let tree = c.in-Ok.ensures in
     let name = c.in_ok-name-in-Ok-Some in
-    let read = c.in-Ok-read.ensures in
-    let right = subst (λ n. ForReading c.args.reader.several c.states.shapes c.args.reader.listed (λ reading. For (IsValue (view c.in-Ok.tree)) (λ v. object_complaints reading n state_rows v ≡ []))) (c.deref.ensures ∙ name.ensures.ok) read.right in
-    states_gone_on c.args.reader.several c.args.reader.listed c.args.shapes.now c.args.levels c.args.tokens.now c.states.shapes c.read_state-read.new.shapes c.states.tokens s c.next_tree.new.reader k (view c.in-Ok.tree) c.states.states.entries c.insert.new.self.entries name.name c.in-Ok-read.state
-    c.requires.listed c.states.invariant named tree.tree tree.shorter read.keeps name.ensures.ok right read.numbers c.in_ok-insert-in-Ok-read.ensures.entries
+    let read = c.in_ok-state-in-Ok-Some.ensures in
+    states_gone_on c.args.reader.several c.args.reader.listed c.args.shapes.now c.args.levels c.args.tokens.now c.states.shapes c.next_state.new.shapes c.states.tokens s c.next_state.new.tokens k c.states.states.entries c.insert.new.self.entries name.name c.in_ok-state-in-Ok-Some.state
+    c.requires.listed c.states.invariant named read.state read.shorter read.keeps name.ensures.ok c.in_ok-insert-in-Ok-Some.ensures.entries
 
 pub returns-in-Ok-None-clause-states : goal.returns-in-Ok-None-clause-states
 returns-in-Ok-None-clause-states c =

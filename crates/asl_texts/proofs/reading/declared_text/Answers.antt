@@ -7,7 +7,7 @@ use Rattle.asl_texts.proofs.reading.declared_text.Goals as goal
 
 pub returns-in_err-tree-clause-refused : goal.returns-in_err-tree-clause-refused
 returns-in_err-tree-clause-refused c =
-    let p = err_from_is_err_and c.from_residual.result c.from_residual.ensures.1 in
+    let p = err_from_is_err_and c.from_residual-in_err-tree.result c.from_residual-in_err-tree.ensures.1 in
     let refused = c.in_err-tree.ensures.refused in
     rw (p.1, p.2) (refused.0, no_tree-declared c.args.text.now (text_fault_view c.in_err-tree.field-0.0.fault) refused.1)
 
