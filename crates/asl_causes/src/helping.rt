@@ -10,7 +10,6 @@ use asl_diagnostics::rule_of_finding;
 use asl_numbered::Shapes;
 use asl_phrases::{Apart, Lack, Stop, difference, stop_of};
 use asl_state_edges::{Broken, Step};
-use asl_states::Kind;
 use asl_tree::{OutOfMemory, quoted};
 
 impl<'m> Explainer<'m> {
@@ -170,7 +169,7 @@ impl<'m> Explainer<'m> {
         match stop_of(self.alloc, shapes, path.shape, path.path, path.segment)? {
             Some(stop) => {
                 let place = self.place_of_stop(shapes, cause, field, &path, &stop)?;
-                self.help_at_place(field, &place, &stop, cause, on_some_way)
+                self.help_at_place(shapes, field, &place, &stop, cause, on_some_way)
             }
             None => self.general(fault),
         }
@@ -179,6 +178,7 @@ impl<'m> Explainer<'m> {
     /// To see that there is something at a place, by what it comes from.
     fn help_at_place(
         &self,
+        shapes: &Shapes,
         field: &str,
         place: &Place,
         stop: &Stop,
@@ -186,50 +186,12 @@ impl<'m> Explainer<'m> {
         on_some_way: bool,
     ) -> Result<String, OutOfMemory> {
         match (self.maker_of(place, cause), place.source) {
-            (Some(maker), _) => self.help_with_maker(field, place, maker),
+            (Some(maker), _) => self.help_with_maker(shapes, field, place, stop, maker),
             (None, Some(Source::Emptied)) => self.help_with_emptied(place),
+            (None, Some(Source::Built)) => self.help_with_built(field, place, stop, cause),
             _ if stop.is_field => self.help_with_field(field, place, stop, cause, on_some_way),
             _ => self.help_with_element(place),
         }
-    }
-
-    /// The field of the definition that makes the data at a place, where it is made there.
-    fn maker_of(&self, place: &Place, cause: &Cause) -> Option<&'static str> {
-        let state = self.machine.state(cause.state)?;
-        match (place.source?, &state.kind) {
-            (Source::Made(field), _) => Some(field),
-            (Source::Work, Kind::Pass { .. }) => Some("Result"),
-            _ => None,
-        }
-    }
-
-    /// To have a template or a Result make what a path of that field names, or to have the path name what is made.
-    fn help_with_maker(
-        &self,
-        field: &str,
-        place: &Place,
-        maker: &str,
-    ) -> Result<String, OutOfMemory> {
-        let absent = place.absent.as_str();
-        let source = match maker {
-            "Parameters" => "input",
-            "ResultSelector" => "result",
-            _ => return Ok(format!(in self.alloc;
-                "Add {absent} to {maker}, or let {field} name something that it has."
-            )?),
-        };
-        Ok(format!(in self.alloc;
-            "Add {absent} to what {maker} makes, or let {field} name something that it makes: nothing else of the {source} is \
-            left behind it."
-        )?)
-    }
-
-    /// To keep an input of which nothing is left.
-    fn help_with_emptied(&self, place: &Place) -> Result<String, OutOfMemory> {
-        let absent = place.absent.as_str();
-        Ok(format!(in self.alloc;
-            "Take out \"InputPath\": null, which leaves {{}} of the input; or do without {absent} here."
-        )?)
     }
 
     /// To see that an element is there.
@@ -381,7 +343,7 @@ impl<'m> Explainer<'m> {
     }
 
     /// Whether the data is the machine's input as it is given.
-    fn is_at_start(&self, cause: &Cause) -> bool {
+    pub(crate) fn is_at_start(&self, cause: &Cause) -> bool {
         match cause.way {
             Way::Visit(number) => match self.flows.visits.get(number) {
                 Some(visit) => visit.arrival.origin.is_none(),

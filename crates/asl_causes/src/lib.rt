@@ -15,6 +15,7 @@ mod helping;
 mod idle_tests;
 mod known;
 mod lookups;
+mod making;
 mod misfits;
 mod origins;
 mod places;

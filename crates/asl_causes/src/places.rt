@@ -104,7 +104,7 @@ fn whole_traced(field: &str, whole: &'static str, traced: &Traced) -> &'static s
         Source::Input if traced.is_plain() && field != "OutputPath" => whole,
         Source::Input => "the input",
         Source::Work => "the result",
-        Source::Made(_) | Source::Emptied => whole,
+        Source::Made(_) | Source::Built | Source::Emptied => whole,
     }
 }
 

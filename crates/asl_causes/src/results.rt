@@ -5,6 +5,7 @@ use crate::flows::Explainer;
 use crate::sources::Source;
 use asl_numbered::Shapes;
 use asl_path::RefPath;
+use asl_phrases::front_of;
 use asl_state_edges::{Broken, Step};
 use asl_states::{Kind, State};
 use asl_tree::OutOfMemory;
@@ -34,6 +35,44 @@ impl<'m> Explainer<'m> {
         }
     }
 
+    /// That ResultPath makes the object into which the path of the rule of a field goes, where that is so for data with which
+    /// the rule is broken.
+    pub(crate) fn built_origin(
+        &self,
+        shapes: &mut Shapes,
+        cause: &Cause<'m>,
+        field: &str,
+    ) -> Result<Option<String>, OutOfMemory> {
+        let Step::Breaks(
+            Broken {
+                path: Some(path),
+                ..
+            },
+        ) = cause.step
+        else {
+            return Ok(None);
+        };
+        match self.source_of_path(shapes, cause, field, &path)? {
+            Some(traced) if matches!(traced.source, Source::Built) => {
+                let object = front_of(self.alloc, path.path, path.segment)?;
+                let input = self.called_input(cause);
+                Ok(Some(format!(in self.alloc;
+                    "ResultPath, which makes {object} where {input} lacks it"
+                )?))
+            }
+            Some(_) | None => Ok(None),
+        }
+    }
+
+    /// What the input of a state is called.
+    pub(crate) fn called_input(&self, cause: &Cause) -> &'static str {
+        if self.is_at_start(cause) {
+            "the machine's input"
+        } else {
+            "the input"
+        }
+    }
+
     /// Whether the paths of that field go into the state's input as it comes.
     pub(crate) fn goes_into_input(&self, state: usize, field: &str) -> bool {
         let Some(state) = self.machine.state(state) else {
@@ -53,7 +92,7 @@ impl<'m> Explainer<'m> {
 /// What a source is, where it isn't the state's input.
 fn words_on(source: &Source, state: &State) -> Option<&'static str> {
     match source {
-        Source::Input => None,
+        Source::Input | Source::Built => None,
         Source::Work => result_of(state),
         Source::Emptied => Some("InputPath null, which leaves {} of the input"),
         Source::Made("Parameters") => Some("what Parameters makes of the input"),

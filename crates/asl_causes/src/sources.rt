@@ -21,6 +21,8 @@ pub(crate) enum Source {
     Work,
     /// What the template of that field makes.
     Made(&'static str),
+    /// ResultPath, which makes an object where the input has none.
+    Built,
     /// An InputPath that is null.
     Emptied,
 }
@@ -61,7 +63,28 @@ impl<'m> Explainer<'m> {
         }
         let many = path.segment.saturating_add(1);
         let pieces = pieces_of(self.alloc, path.path, many)?;
-        Ok(Some(trace(state, field, &pieces)))
+        let traced = trace(state, field, &pieces);
+        if matches!(traced.source, Source::Built)
+            && self.is_in_input(shapes, &state.settings, cause.input, path.segment)?
+        {
+            return Ok(Some(in_input()));
+        }
+        Ok(Some(traced))
+    }
+
+    /// Whether the object to which the first `many` segments of ResultPath go is the input's own in each input of the shape of
+    /// that number.
+    fn is_in_input(
+        &self,
+        shapes: &mut Shapes,
+        settings: &Settings,
+        number: usize,
+        many: usize,
+    ) -> Result<bool, OutOfMemory> {
+        match &settings.result_path {
+            Some(path) => self.has_sure(shapes, number, path, many),
+            None => Ok(false),
+        }
     }
 }
 
@@ -163,13 +186,25 @@ pub(crate) fn in_effective<'m>(
     }
 }
 
-/// The place in the output before OutputPath: in the result where that is placed there, else in the input around it.
+/// The place in an object that ResultPath makes where the input has none.
+fn in_built<'m>() -> Traced<'m> {
+    Traced {
+        source: Source::Built,
+        input_path: None,
+        filled: None,
+        dropped: 0,
+    }
+}
+
+/// The place in the output before OutputPath: in the result where that is placed there, in what ResultPath may make on its way
+/// to the result, else in the input around it.
 fn in_output<'m>(state: &'m State, pieces: &[Piece]) -> Traced<'m> {
     if !has_result(state) {
         return in_effective(&state.settings, pieces, 0);
     }
     match &state.settings.result_path {
         Some(path) if is_front(path, pieces) => in_result(state, pieces, path.segments().len()),
+        Some(path) if is_beside(path, pieces) => in_built(),
         Some(_) | None => in_input(),
     }
 }
@@ -219,6 +254,22 @@ fn is_front(path: &RefPath, pieces: &[Piece]) -> bool {
             .iter()
             .zip(pieces.iter())
             .all(|(segment, piece)| is_piece(segment, piece))
+}
+
+/// Whether the pieces but the last go along a path, though not to its end, so that the last one goes into what is on its way.
+fn is_beside(path: &RefPath, pieces: &[Piece]) -> bool {
+    let segments = path.segments();
+    match pieces.split_last() {
+        Some((_, front)) => {
+            !front.is_empty()
+                && front.len() < segments.len()
+                && front
+                    .iter()
+                    .zip(segments.iter())
+                    .all(|(piece, segment)| is_piece(segment, piece))
+        }
+        None => false,
+    }
 }
 
 /// Whether a segment goes as the piece does.

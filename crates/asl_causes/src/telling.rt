@@ -88,9 +88,23 @@ impl<'m> Explainer<'m> {
             push_line(text, "It comes so from: ", origin)?;
             return Ok(0);
         }
-        let way = self.way_text(cause.way)?;
-        push_line(text, "It comes so from: ", &way)?;
+        match self.built_origin(shapes, cause, &located.finding.field)? {
+            Some(origin) => {
+                push_line(text, "It comes so from: ", &origin)?;
+                self.push_input_way(text, cause)?;
+            }
+            None => push_line(text, "It comes so from: ", &self.way_text(cause.way)?)?,
+        }
         self.push_others(shapes, walks, text, located, cause)
+    }
+
+    /// Puts down by which way the input comes, where that isn't the machine's.
+    fn push_input_way(&self, text: &mut String, cause: &Cause<'m>) -> Result<(), OutOfMemory> {
+        if self.is_at_start(cause) {
+            return Ok(());
+        }
+        let way = self.way_text(cause.way)?;
+        push_line(text, "Such an input comes from: ", &way)
     }
 
     /// Puts down the first origins from which data comes with which the rule isn't broken, and answers how many.

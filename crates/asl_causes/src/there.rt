@@ -266,6 +266,23 @@ impl Explainer<'_> {
         Ok(find_at(shapes, number, path)?.ok())
     }
 
+    /// Whether the first `many` segments of a path are sure to name something in each value of the shape of that number.
+    pub(crate) fn has_sure(
+        &self,
+        shapes: &mut Shapes,
+        number: usize,
+        path: &RefPath,
+        many: usize,
+    ) -> Result<bool, OutOfMemory> {
+        if shapes.inhabited(number) != Some(true) {
+            return Ok(false);
+        }
+        match find_at(shapes, number, path)? {
+            Ok(_) => Ok(true),
+            Err(doubtful) => Ok(many <= doubtful.segment),
+        }
+    }
+
     /// Puts down a payload, what the task takes, and where the one isn't within the other.
     fn push_payload(
         &self,
