@@ -3,13 +3,13 @@
 use crate::asking::stands_in_map;
 use crate::words::counted;
 use asl_machine_table::Machine;
-use asl_suites::{CaseAnswers, Expected, ExpectedPayloads};
+use asl_suites::{CaseAnswers, Expected, ExpectedPayloads, Similar};
 use asl_tree::{OutOfMemory, quoted};
 use std::alloc::Global;
 
-/// The first name in the answers of a case and in what it expects that the machine doesn't have, in words; none where
-/// it has them all. Answers and payloads need the name of a Task, answers by item one in a Map, the path needs names of
-/// states.
+/// The first name in the answers of a case and in what it expects that the machine doesn't have, in words, with one that may
+/// be meant, where one is like it; none where it has them all. Answers and payloads need the name of a Task, answers by
+/// item one in a Map, the path needs names of states.
 ///
 /// Refused: want of memory.
 pub fn mistake_in(
@@ -70,8 +70,8 @@ fn mistake_in_path(
     for (step, state) in path.iter().enumerate() {
         if machine.state_named(state).is_none() {
             let step = counted(alloc, step)?;
-            let state = quoted(alloc, state)?;
-            return Ok(Some(format!(in alloc; "path: at step {step} there is no state {state}")?));
+            let why = words_on_none(alloc, machine, state, false)?;
+            return Ok(Some(format!(in alloc; "path: at step {step} {why}")?));
         }
     }
     Ok(None)
@@ -84,10 +84,10 @@ fn why_no_task(
     name: &str,
     by_item: bool,
 ) -> Result<Option<String>, OutOfMemory> {
-    let words = quoted(alloc, name)?;
     let Some(number) = machine.state_named(name) else {
-        return Ok(Some(format!(in alloc; "there is no state {words}")?));
+        return Ok(Some(words_on_none(alloc, machine, name, true)?));
     };
+    let words = quoted(alloc, name)?;
     if !is_task(machine, number) {
         return Ok(Some(format!(in alloc; "{words} is no Task")?));
     }
@@ -97,6 +97,24 @@ fn why_no_task(
         )?));
     }
     Ok(None)
+}
+
+/// That there is no state of that name, and which one may be meant: any one, or a Task alone.
+fn words_on_none(
+    alloc: Global,
+    machine: &Machine,
+    name: &str,
+    is_of_task: bool,
+) -> Result<String, OutOfMemory> {
+    let mut similar = Similar::to(alloc, name);
+    for number in 0..machine.states() {
+        if !is_of_task || is_task(machine, number) {
+            if let Some(other) = machine.name(number) {
+                similar.look_at(other)?;
+            }
+        }
+    }
+    similar.unknown()?.words(alloc, "state")
 }
 
 /// Whether the state of that number is a Task.

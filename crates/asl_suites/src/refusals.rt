@@ -152,8 +152,8 @@ impl Wanted {
 }
 
 impl Unknown {
-    /// That there is nothing of that kind with the name, and what may be meant.
-    fn words(&self, alloc: Global, kind: &str) -> Result<String, OutOfMemory> {
+    /// That there is nothing of that kind with the name, and what may be meant. Refuses only where an allocation was refused.
+    pub fn words(&self, alloc: Global, kind: &str) -> Result<String, OutOfMemory> {
         let name = quoted(alloc, &self.name)?;
         match &self.similar {
             Some(similar) => {
