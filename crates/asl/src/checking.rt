@@ -1,8 +1,8 @@
 //! From standard input or files to a verdict on standard output.
 
 use asl_command_line::TextFiles;
-use asl_files::{file_text, finish_with, input_source, print_verdict};
-use asl_tool::{Closing, RunFault, ToWrite, Verdict};
+use asl_files::{Given, file_text, finish, finish_given, finish_with, input_source, print_verdict};
+use asl_tool::{Closing, RunFault, ToWrite};
 use std::io;
 use std::rt::Files;
 
@@ -16,7 +16,10 @@ pub(crate) fn check_files<R: Files + Input + Print + Eprint + AllocGlobal>(
     rt: &R,
     files: &TextFiles<'_>,
 ) -> u8 {
-    finish_with(rt, verdict_on(rt, files))
+    match texts_in(rt, files) {
+        Ok(texts) => finish_given(rt, verdict_on(rt, &texts), &texts.given()),
+        Err(fault) => finish(rt, &Closing::Fault(fault)),
+    }
 }
 
 /// The verdict on the three lines of standard input, which is written to standard output.
@@ -29,30 +32,55 @@ fn verdict_on_lines<R: Input + Print + AllocGlobal>(rt: &R) -> Result<Closing, R
     Ok(Closing::Verdict(verdict))
 }
 
-/// The verdict on the texts in three files, which is written to standard output. All files are read, in the order
-/// definition, declared shapes, certificate, before a text is looked at.
-///
-/// Refused: Read for a file that can't be opened or read, TooLong for one that is too long, the first of them; Text for
-/// a refused text; Write; OutOfMemory.
-fn verdict_on<R: Files + Input + Print + AllocGlobal>(
-    rt: &R,
-    files: &TextFiles<'_>,
-) -> Result<Closing, RunFault> {
-    let verdict = verdict_of(rt, files)?;
-    print_verdict(rt, &verdict)?;
-    Ok(Closing::Verdict(verdict))
+/// The three texts of a check.
+#[derive(Drop)]
+struct Texts {
+    definition: Vec<u8>,
+    declared: Vec<u8>,
+    certificate: Vec<u8>,
 }
 
-/// The verdict on the texts in three files.
+impl Texts {
+    /// The texts as they were given.
+    fn given(&self) -> Given<'_> {
+        Given {
+            definition: &self.definition,
+            declared: Some(&self.declared),
+            certificate: Some(&self.certificate),
+            order: "the definition comes first, then the declared shapes, then the certificate",
+        }
+    }
+}
+
+/// The texts in three files. All are read, in the order definition, declared shapes, certificate, before a text is looked
+/// at.
 ///
-/// Refused as [`verdict_on`] is, but for Write.
-fn verdict_of<R: Files + Input + AllocGlobal>(
+/// Refused: Read for a file that can't be opened or read, TooLong for one that is too long, the first of them;
+/// OutOfMemory.
+fn texts_in<R: Files + Input + AllocGlobal>(
     rt: &R,
     files: &TextFiles<'_>,
-) -> Result<Verdict, RunFault> {
+) -> Result<Texts, RunFault> {
     let definition = file_text(rt, files.definition)?;
     let declared = file_text(rt, files.declared)?;
     let certificate = file_text(rt, files.certificate)?;
-    let verdict = asl_tool::verify_texts(rt.alloc(), &definition, &declared, &certificate)?;
-    Ok(verdict)
+    Ok(Texts {
+        definition,
+        declared,
+        certificate,
+    })
+}
+
+/// The verdict on three texts, which is written to standard output.
+///
+/// Refused: Text for a refused text; Write; OutOfMemory.
+fn verdict_on<R: Print + AllocGlobal>(rt: &R, texts: &Texts) -> Result<Closing, RunFault> {
+    let verdict = asl_tool::verify_texts(
+        rt.alloc(),
+        &texts.definition,
+        &texts.declared,
+        &texts.certificate,
+    )?;
+    print_verdict(rt, &verdict)?;
+    Ok(Closing::Verdict(verdict))
 }

@@ -1,6 +1,6 @@
 //! From a definition to declared shapes to begin with, on standard output.
 
-use asl_files::{end, print_line, text_or_status};
+use asl_files::{Given, end_given, print_line, text_or_status};
 use asl_samples::declared_text;
 use asl_tool::{RunFault, read_definition};
 use std::rt::Files;
@@ -11,10 +11,17 @@ pub(crate) fn declare_file<R: Files + Input + Print + Eprint + AllocGlobal>(
     rt: &R,
     name: &str,
 ) -> u8 {
-    match text_or_status(rt, name) {
-        Ok(text) => end(rt, declared_on(rt, &text)),
-        Err(status) => status,
-    }
+    let text = match text_or_status(rt, name) {
+        Ok(text) => text,
+        Err(status) => return status,
+    };
+    let given = Given {
+        definition: &text,
+        declared: None,
+        certificate: None,
+        order: "a definition is wanted",
+    };
+    end_given(rt, declared_on(rt, &text), &given)
 }
 
 /// Writes declared shapes for a definition to standard output, and gives the exit status.

@@ -2,7 +2,7 @@
 
 use asl_command_line::ExplainRequest;
 use asl_explain::{Explained, explain_texts};
-use asl_files::{ROUNDS, end, finish, print_text, text_or_status};
+use asl_files::{Given, ROUNDS, end_given, finish, print_text, text_or_status};
 use asl_tool::{Closing, RunFault};
 use asl_tree::{OutOfMemory, quoted};
 use std::alloc::Global;
@@ -18,10 +18,21 @@ pub(crate) fn explain_files<R: Files + Input + Print + Eprint + AllocGlobal>(
         Ok(text) => text,
         Err(status) => return status,
     };
-    match text_or_status(rt, request.files.declared) {
-        Ok(declared) => end(rt, explained_on(rt, request, &definition, &declared)),
-        Err(status) => status,
-    }
+    let declared = match text_or_status(rt, request.files.declared) {
+        Ok(text) => text,
+        Err(status) => return status,
+    };
+    let given = Given {
+        definition: &definition,
+        declared: Some(&declared),
+        certificate: None,
+        order: "the definition comes first, then the declared shapes",
+    };
+    end_given(
+        rt,
+        explained_on(rt, request, &definition, &declared),
+        &given,
+    )
 }
 
 /// Explains what is asked for, and gives the exit status: 1 for findings, 2 for a state that isn't there. That there is

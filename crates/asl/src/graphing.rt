@@ -1,7 +1,7 @@
 //! From a definition to a picture of it, on standard output.
 
 use asl_command_line::{GraphFormat, GraphRequest};
-use asl_files::{ROUNDS, end, finish, print_text, text_or_status};
+use asl_files::{Given, ROUNDS, end_given, finish, print_text, text_or_status};
 use asl_graph::{Drawn, Format, graph_texts};
 use asl_tool::{Closing, RunFault};
 use std::rt::Files;
@@ -17,12 +17,28 @@ pub(crate) fn graph_file<R: Files + Input + Print + Eprint + AllocGlobal>(
         Err(status) => return status,
     };
     let Some(name) = request.declared else {
-        return end(rt, graphed_on(rt, request, &definition, None));
+        return graph_given(rt, request, &definition, None);
     };
     match text_or_status(rt, name) {
-        Ok(declared) => end(rt, graphed_on(rt, request, &definition, Some(&declared))),
+        Ok(declared) => graph_given(rt, request, &definition, Some(&declared)),
         Err(status) => status,
     }
+}
+
+/// Writes a picture of a definition, and gives the exit status. A refused text is told on standard error.
+fn graph_given<R: Print + Eprint + AllocGlobal>(
+    rt: &R,
+    request: &GraphRequest<'_>,
+    definition: &[u8],
+    declared: Option<&[u8]>,
+) -> u8 {
+    let given = Given {
+        definition,
+        declared,
+        certificate: None,
+        order: "--declared gives the declared shapes of the definition",
+    };
+    end_given(rt, graphed_on(rt, request, definition, declared), &given)
 }
 
 /// Writes a picture of a definition, and gives the exit status.

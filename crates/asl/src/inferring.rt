@@ -1,7 +1,7 @@
 //! From files to an inferred certificate, or to whether there is one, on standard output.
 
 use asl_command_line::{InferRequest, MachineFiles};
-use asl_files::{ROUNDS, file_text, finish_with, print_line, print_verdict};
+use asl_files::{Given, ROUNDS, file_text, finish, finish_given, print_line, print_verdict};
 use asl_tool::{
     Closing, Finding, Inferred, RunFault, Verdict, Verified, infer_texts, verify_inferred,
 };
@@ -12,7 +12,10 @@ pub(crate) fn infer_files<R: Files + Input + Print + Eprint + AllocGlobal>(
     rt: &R,
     request: &InferRequest<'_>,
 ) -> u8 {
-    finish_with(rt, infer_on(rt, request))
+    match texts_in(rt, &request.files) {
+        Ok(texts) => finish_given(rt, infer_on(rt, &texts, request.numbered), &texts.given()),
+        Err(fault) => finish(rt, &Closing::Fault(fault)),
+    }
 }
 
 /// Infers a certificate of the texts in two files, writes to standard output whether there is one, and gives the exit
@@ -21,39 +24,74 @@ pub(crate) fn verify_files<R: Files + Input + Print + Eprint + AllocGlobal>(
     rt: &R,
     files: &MachineFiles<'_>,
 ) -> u8 {
-    finish_with(rt, verify_on(rt, files))
+    match texts_in(rt, files) {
+        Ok(texts) => finish_given(rt, verify_on(rt, &texts), &texts.given()),
+        Err(fault) => finish(rt, &Closing::Fault(fault)),
+    }
 }
 
-/// The inference on the texts in two files, whose certificate is written to standard output with a line break, or its
-/// finding as a verdict. Both files are read, the definition first, before a text is looked at.
+/// The two texts of which something is inferred.
+#[derive(Drop)]
+struct Texts {
+    definition: Vec<u8>,
+    declared: Vec<u8>,
+}
+
+impl Texts {
+    /// The texts as they were given.
+    fn given(&self) -> Given<'_> {
+        Given {
+            definition: &self.definition,
+            declared: Some(&self.declared),
+            certificate: None,
+            order: "the definition comes first, then the declared shapes",
+        }
+    }
+}
+
+/// The texts in two files. Both are read, the definition first, before a text is looked at.
 ///
-/// Refused: Read for a file that can't be opened or read, TooLong for one that is too long, the first of them; Text for
-/// a refused text; Write; OutOfMemory.
-fn infer_on<R: Files + Input + Print + AllocGlobal>(
+/// Refused: Read for a file that can't be opened or read, TooLong for one that is too long, the first of them;
+/// OutOfMemory.
+fn texts_in<R: Files + Input + AllocGlobal>(
     rt: &R,
-    request: &InferRequest<'_>,
+    files: &MachineFiles<'_>,
+) -> Result<Texts, RunFault> {
+    let definition = file_text(rt, files.definition)?;
+    let declared = file_text(rt, files.declared)?;
+    Ok(Texts {
+        definition,
+        declared,
+    })
+}
+
+/// The inference on two texts, whose certificate is written to standard output with a line break, or its finding as a
+/// verdict.
+///
+/// Refused: Text for a refused text; Write; OutOfMemory.
+fn infer_on<R: Print + AllocGlobal>(
+    rt: &R,
+    texts: &Texts,
+    numbered: bool,
 ) -> Result<Closing, RunFault> {
-    let definition = file_text(rt, request.files.definition)?;
-    let declared = file_text(rt, request.files.declared)?;
-    let numbered = request.numbered;
-    match infer_texts(rt.alloc(), &definition, &declared, ROUNDS, numbered)? {
+    match infer_texts(
+        rt.alloc(),
+        &texts.definition,
+        &texts.declared,
+        ROUNDS,
+        numbered,
+    )? {
         Inferred::Certificate(text) => tell_certificate(rt, text),
         Inferred::Finding(finding) => tell_finding(rt, finding),
         Inferred::NotSettled => Ok(Closing::NotSettled),
     }
 }
 
-/// Whether a certificate is inferred of the texts in two files: yes is written to standard output, or the finding as a
-/// verdict. Both files are read, the definition first, before a text is looked at.
+/// Whether a certificate is inferred of two texts: yes is written to standard output, or the finding as a verdict.
 ///
 /// Refused as by [`infer_on`].
-fn verify_on<R: Files + Input + Print + AllocGlobal>(
-    rt: &R,
-    files: &MachineFiles<'_>,
-) -> Result<Closing, RunFault> {
-    let definition = file_text(rt, files.definition)?;
-    let declared = file_text(rt, files.declared)?;
-    match verify_inferred(rt.alloc(), &definition, &declared, ROUNDS)? {
+fn verify_on<R: Print + AllocGlobal>(rt: &R, texts: &Texts) -> Result<Closing, RunFault> {
+    match verify_inferred(rt.alloc(), &texts.definition, &texts.declared, ROUNDS)? {
         Verified::Yes => tell_verdict(rt, Verdict::Yes),
         Verified::Finding(finding) => tell_finding(rt, finding),
         Verified::NotSettled => Ok(Closing::NotSettled),

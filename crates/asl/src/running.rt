@@ -1,7 +1,7 @@
 //! From files to the trace of a run on standard output.
 
 use asl_command_line::RunRequest;
-use asl_files::{file_source, file_text, finish_with, input_source, is_input};
+use asl_files::{Given, file_source, file_text, finish, finish_given, input_source, is_input};
 use asl_tool::{Closing, RunFault, Source, ToWrite};
 use std::io;
 use std::rt::Files;
@@ -14,35 +14,62 @@ struct Texts {
     input: Vec<u8>,
 }
 
+impl Texts {
+    /// The texts as they were given.
+    fn given(&self) -> Given<'_> {
+        Given {
+            definition: &self.definition,
+            declared: self.declared.as_deref(),
+            certificate: None,
+            order: "--declared gives the declared shapes of the definition, which comes first",
+        }
+    }
+}
+
 /// Runs a machine on the texts in files, writes the trace to standard output, and gives the exit status.
 pub(crate) fn run_files<R: Files + Input + Print + Eprint + AllocGlobal>(
     rt: &R,
     request: &RunRequest<'_>,
 ) -> u8 {
-    finish_with(rt, run_on(rt, request))
+    match texts_in(rt, request) {
+        Ok(texts) => finish_given(rt, run_on(rt, request, &texts), &texts.given()),
+        Err(fault) => finish(rt, &Closing::Fault(fault)),
+    }
 }
 
-/// The run on the texts in files, whose trace is written to standard output. The files are taken in the order
-/// definition, declared shapes, input, answers: the answers are opened only, the others read, before a text is looked at.
+/// The texts of a run but its answers. The files are read in the order definition, declared shapes, input, before a text is
+/// looked at.
 ///
-/// Refused: Read for a file that can't be opened or read, TooLong for one that is too long, the first of them, but for
-/// the answers only where no text before them is refused; Text for a refused text; Write; OutOfMemory.
-fn run_on<R: Files + Input + Print + AllocGlobal>(
+/// Refused: Read for a file that can't be opened or read, TooLong for one that is too long, the first of them;
+/// OutOfMemory.
+fn texts_in<R: Files + Input + AllocGlobal>(
     rt: &R,
     request: &RunRequest<'_>,
-) -> Result<Closing, RunFault> {
-    let texts = Texts {
+) -> Result<Texts, RunFault> {
+    Ok(Texts {
         definition: file_text(rt, request.definition)?,
         declared: match request.declared {
             Some(name) => Some(file_text(rt, name)?),
             None => None,
         },
         input: file_text(rt, request.input)?,
-    };
+    })
+}
+
+/// The run on these texts, whose trace is written to standard output. The answers are opened before a text is looked at, and
+/// read once the texts are good.
+///
+/// Refused: Read for answers that can't be opened, or, where no text is refused, can't be read; TooLong for answers that are
+/// too long, where no text is refused; Text for a refused text; Write; OutOfMemory.
+fn run_on<R: Files + Input + Print + AllocGlobal>(
+    rt: &R,
+    request: &RunRequest<'_>,
+    texts: &Texts,
+) -> Result<Closing, RunFault> {
     if is_input(request.answers) {
-        run_with(rt, request, &texts, &mut input_source(rt))
+        run_with(rt, request, texts, &mut input_source(rt))
     } else {
-        run_with(rt, request, &texts, &mut file_source(rt, request.answers)?)
+        run_with(rt, request, texts, &mut file_source(rt, request.answers)?)
     }
 }
 

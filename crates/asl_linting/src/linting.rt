@@ -100,9 +100,8 @@ fn check(
     shapes: Option<File<'_>>,
     report: &mut Report,
 ) -> Result<(), OutOfMemory> {
-    let path = definition.path;
     let linted = lint(alloc, definition, shapes, ROUNDS)?;
-    report.add_checked(path, linted)
+    report.add_checked(alloc, definition, linted)
 }
 
 /// The text of a file with its path, where there is one.

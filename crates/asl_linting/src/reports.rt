@@ -3,8 +3,8 @@
 use asl_diagnostics::{
     Diagnostic, Severity, github_lines, json_text, sarif_text, sort, text_lines,
 };
-use asl_files::{LintFormat, with_break};
-use asl_lint::Linted;
+use asl_files::{LintFormat, Look, look_of, with_break};
+use asl_lint::{File, Linted};
 use asl_tree::{OutOfMemory, in_line, same};
 use std::alloc::Global;
 
@@ -56,13 +56,18 @@ impl Report {
         }
     }
 
-    /// Takes what was found in the definition at that path.
-    pub(crate) fn add_checked(&mut self, path: &str, linted: Linted) -> Result<(), OutOfMemory> {
+    /// Takes what was found in a definition.
+    pub(crate) fn add_checked(
+        &mut self,
+        alloc: Global,
+        definition: File<'_>,
+        linted: Linted,
+    ) -> Result<(), OutOfMemory> {
         self.checked = self.checked.saturating_add(1);
         self.is_partial |= !linted.is_read;
-        if has_fields_of_declared(&linted.diagnostics) {
+        if lacks_start(&linted.diagnostics) && seems_declared(alloc, definition.text)? {
             self.note(
-                path,
+                definition.path,
                 "it has the fields of declared shapes; they are given by --declared",
             )?;
         }
@@ -154,16 +159,19 @@ impl Counts {
     }
 }
 
-/// Whether what was taken for a definition lacks a definition's fields, and has those of declared shapes.
-fn has_fields_of_declared(diagnostics: &[Diagnostic]) -> bool {
-    is_told(diagnostics, "MissingField", "StartAt") && is_told(diagnostics, "UnknownField", "input")
+/// Whether it is told that a whole machine lacks its start.
+fn lacks_start(diagnostics: &[Diagnostic]) -> bool {
+    diagnostics.iter().any(|it| it.rule.id == "MissingField"
+        && it.state.is_none()
+        && it.field.as_deref() == Some("StartAt"))
 }
 
-/// Whether that rule is told of that field of a whole machine.
-fn is_told(diagnostics: &[Diagnostic], rule: &str, field: &str) -> bool {
-    diagnostics.iter().any(|it| it.rule.id == rule
-        && it.state.is_none()
-        && it.field.as_deref() == Some(field))
+/// Whether a text has the fields of declared shapes, and none of a definition.
+fn seems_declared(alloc: Global, text: &[u8]) -> Result<bool, OutOfMemory> {
+    match look_of(alloc, text)? {
+        Some(Look::Declared) => Ok(true),
+        Some(Look::Definition | Look::Certificate) | None => Ok(false),
+    }
 }
 
 /// A number and what is counted, in the plural where it isn't one.

@@ -2,7 +2,7 @@
 
 use asl_breaks::refused_at;
 use asl_cases::{mistake_in, mistake_in_answers};
-use asl_files::{is_input, text_or_why};
+use asl_files::{is_input, other_look, text_or_why};
 use asl_machine::Machine;
 use asl_places::Place;
 use asl_records::Declared;
@@ -393,10 +393,24 @@ fn unfit_text(alloc: Global, text: &[u8], fault: RunFault) -> Result<Unfit, OutO
                 ..
             },
         ) => unfit_tree(alloc, text, &refusal),
-        fault => {
-            let (_, line) = closing(alloc, &Closing::Fault(fault))?;
-            Ok(Unfit::Why(String::from_str(alloc, line.trim_end())?))
+        fault => Ok(Unfit::Why(refused_words(alloc, text, fault)?)),
+    }
+}
+
+/// The fault of a text that is refused, and behind it what the text seems to be, where that is something else.
+fn refused_words(alloc: Global, text: &[u8], fault: RunFault) -> Result<String, OutOfMemory> {
+    let look = match &fault {
+        RunFault::Text(refusal) => other_look(alloc, text, refusal)?,
+        _ => None,
+    };
+    let (_, line) = closing(alloc, &Closing::Fault(fault))?;
+    let line = line.trim_end();
+    match look {
+        Some(look) => {
+            let look = look.words();
+            Ok(format!(in alloc; "{line}; this looks like {look}")?)
         }
+        None => Ok(String::from_str(alloc, line)?),
     }
 }
 
