@@ -35,11 +35,10 @@ const NO_DATA_REACHES: Rule = Rule {
     severity: Severity::Warning,
     short: "No data reaches this state.",
     full: "A way leads to this state, but by the declared shapes no data comes along it: a choice rule on the \
-        way can't be true, a task on it gives no value, or a state on it hands nothing on because of an \
-        error that is told there.",
-    help: "Mend the errors that are told of the states in front first. Then see whether a rule asks for what \
-        never comes, or whether shapes are declared more narrowly than the data is. What is meant to be so \
-        can be removed.",
+        way can't be true, or a task on it gives no value. Of a state behind an error that may stop data it \
+        isn't told.",
+    help: "See whether a rule asks for what never comes, or whether shapes are declared more narrowly than the \
+        data is. What is meant to be so can be removed.",
 };
 
 const CATCHER_NEVER_TAKEN: Rule = Rule {

@@ -4,15 +4,16 @@ ghost use Rattle.asl_diagnostics.specs.declared.Severity.{Severity};
 ghost use Rattle.asl_problems.specs.Told.{errors_of};
 
 use crate::problems::{Kind, Problem};
+use asl_check::FindingFault;
 use asl_diagnostics::{Severity, rule_of_warning};
 use asl_machine::Machine;
 use asl_records::NumberedCertificate;
 use asl_tree::OutOfMemory;
-use asl_warnings::{Notice, notices};
+use asl_warnings::{Notice, Stop, notices};
 use std::alloc::Global;
 
-/// Adds what is hardly meant in a machine; without a certificate only what the machine itself tells. Refuses only where an
-/// allocation was refused.
+/// Adds what is hardly meant in a machine; without a certificate only what the machine itself tells. Of data behind a state at
+/// which one of the problems may stop data nothing is told. Refuses only where an allocation was refused.
 pub fn add_warnings(
     alloc: Global,
     problems: &mut Vec<Problem>,
@@ -21,8 +22,64 @@ pub fn add_warnings(
 ) -> Result<(), OutOfMemory>
     ensures { OnOk result (errors_of problems.new.items ≡ errors_of problems.old.items) }
 {
-    let notices = notices(alloc, machine, certificate)?;
+    let notices = notices_beside(alloc, problems, machine, certificate)?;
     add_each(alloc, problems, &notices)
+}
+
+/// What is hardly meant in a machine that has these problems.
+fn notices_beside<'m>(
+    alloc: Global,
+    problems: &[Problem],
+    machine: &'m Machine,
+    certificate: Option<&mut NumberedCertificate>,
+) -> Result<Vec<Notice<'m>>, OutOfMemory> {
+    let stops = stops_of(alloc, problems)?;
+    notices(alloc, machine, certificate, &stops)
+}
+
+/// Where the problems stop data.
+fn stops_of(alloc: Global, problems: &[Problem]) -> Result<Vec<Stop<'_>>, OutOfMemory> {
+    let mut stops = Vec::new(alloc);
+    for problem in problems {
+        if let Some(stop) = stop_of(problem) {
+            stops.push(stop)?;
+        }
+    }
+    Ok(stops)
+}
+
+/// Where a problem stops data, if it does.
+fn stop_of(problem: &Problem) -> Option<Stop<'_>> {
+    let Kind::Finding(fault, _) = problem.kind else {
+        return None;
+    };
+    let (state, field) = (problem.state.as_deref()?, problem.field.as_deref()?);
+    stops_data(fault, field).then_some(Stop { state, field })
+}
+
+/// Whether an inference takes nothing further along the way on which that rule is broken. Of a path by which a Wait finds its
+/// time it takes all data further, and so of a task that isn't declared, or isn't given what it takes; and where no rule of a
+/// Choice is true no way goes on.
+fn stops_data(fault: FindingFault, field: &str) -> bool {
+    match fault {
+        FindingFault::TaskUndeclared
+        | FindingFault::TaskUnknown
+        | FindingFault::NoDefault
+        | FindingFault::PayloadNotTaken => false,
+        FindingFault::PathMayBeMissing | FindingFault::WrongKind => {
+            field != "SecondsPath" && field != "TimestampPath"
+        }
+        FindingFault::NotCertified
+        | FindingFault::NotAState
+        | FindingFault::StartInput
+        | FindingFault::ResultMayNotFit
+        | FindingFault::IntrinsicMayFail
+        | FindingFault::OutputNotCertified
+        | FindingFault::NextInput
+        | FindingFault::ScopeOutput
+        | FindingFault::BranchInput
+        | FindingFault::CatchInput => true,
+    }
 }
 
 /// Adds each of the notices.

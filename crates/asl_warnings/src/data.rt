@@ -46,16 +46,26 @@ fn has_data(certificate: &NumberedCertificate, name: &str) -> Option<bool> {
     certificate.shapes.inhabited(input_of(certificate, name)?)
 }
 
-/// Notes that no data comes to the state, if so, and if it is one of the first on its way.
+/// Marks on states, by the ways of data to them.
+#[derive(Clone, Copy)]
+pub(crate) struct Ways<'w> {
+    /// Those to which the graph leads at once from one to which data comes, and the machine's start.
+    pub(crate) heads: &'w Marks,
+    /// Those to which more data may come than the certificate says.
+    pub(crate) behind: &'w Marks,
+}
+
+/// Notes that no data comes to the state, if so, and if it is one of the first on its way, and none is behind a stop.
 pub(crate) fn note_dataless<'m>(
     notices: &mut Vec<Notice<'m>>,
     row: &Row<'m>,
-    heads: &Marks,
+    ways: Ways<'_>,
     certificate: &NumberedCertificate,
 ) -> Result<(), OutOfMemory>
     ensures { OnOk result (KeepsUnled notices.old.items notices.new.items) }
 {
-    if heads.has(row.number) && has_data(certificate, row.name) == Some(false) {
+    let is_told = ways.heads.has(row.number) && !ways.behind.has(row.number);
+    if is_told && has_data(certificate, row.name) == Some(false) {
         notices.push(Notice {
             warning: Warning::NoDataReaches,
             state: row.name,
@@ -67,15 +77,20 @@ pub(crate) fn note_dataless<'m>(
     Ok(())
 }
 
-/// Notes the rules of a Choice to which data comes, and its `Default`, where they lead on with none of it.
+/// Notes the rules of a Choice to which data comes, and its `Default`, where they lead on with none of it, unless the Choice
+/// is behind a stop.
 pub(crate) fn note_choice<'m>(
     alloc: Global,
     notices: &mut Vec<Notice<'m>>,
     row: &Row<'m>,
+    ways: Ways<'_>,
     certificate: &mut NumberedCertificate,
 ) -> Result<(), OutOfMemory>
     ensures { OnOk result (KeepsUnled notices.old.items notices.new.items) }
 {
+    if ways.behind.has(row.number) {
+        return Ok(());
+    }
     let Some(input) = input_of(certificate, row.name) else {
         return Ok(());
     };

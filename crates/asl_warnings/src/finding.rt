@@ -6,7 +6,8 @@ ghost use Rattle.asl_warnings.specs.LedNames.{told_at, IsExact};
 ghost use Rattle.asl_warnings.specs.Notices.{unled_in, KeepsUnled};
 ghost use Rattle.asl_warnings.specs.Unled.{TellsUnled};
 
-use crate::data::{mark_heads, note_choice, note_dataless};
+use crate::behind::{Stop, mark_behind};
+use crate::data::{Ways, mark_heads, note_choice, note_dataless};
 use crate::leading::mark_led;
 use crate::marks::Marks;
 use crate::notice::Notice;
@@ -27,12 +28,17 @@ use std::alloc::Global;
 /// state to which data comes, or where the machine starts with it: a chain of such states is told at its first. Of a state
 /// that the certificate has no entry for nothing is told of data.
 ///
+/// The certificate may lack what flows on from the stops. Of states to which a way leads on from one, also through the end
+/// of a scope, nothing is told of data. So where all else that flows flows into the certificate's shapes, what is told of
+/// data is true of all data.
+///
 /// Further shapes may stand in the certificate's table afterwards; each that stood there keeps its number. Refuses only
 /// where an allocation was refused.
 pub fn notices<'m>(
     alloc: Global,
     machine: &'m Machine,
     certificate: Option<&mut NumberedCertificate>,
+    stops: &[Stop<'_>],
 ) -> Result<Vec<Notice<'m>>, OutOfMemory>
     ensures { IfOk result (λ notices. TellsUnled machine.now (unled_in notices.items)) }
 {
@@ -43,7 +49,7 @@ pub fn notices<'m>(
         led: &led,
     };
     match certificate {
-        Some(certificate) => finder.find_with(certificate),
+        Some(certificate) => finder.find_with(certificate, stops),
         None => finder.find(),
     }
 }
@@ -89,15 +95,21 @@ impl<'m> Finder<'_, 'm> {
     fn find_with(
         &self,
         certificate: &mut NumberedCertificate,
+        stops: &[Stop<'_>],
     ) -> Result<Vec<Notice<'m>>, OutOfMemory>
         requires { IsExact self.now.machine.now self.now.led.now }
         ensures { IfOk result
             (λ notices. TellsUnled self.now.machine.now (unled_in notices.items)) }
     {
         let heads = mark_heads(self.alloc, self.machine, self.led, certificate)?;
+        let behind = mark_behind(self.alloc, self.machine, certificate, stops)?;
+        let ways = Ways {
+            heads: &heads,
+            behind: &behind,
+        };
         let mut notices = Vec::new(self.alloc);
         for number in 0..self.machine.states() {
-            self.note_state_with(&mut notices, number, &heads, certificate)?;
+            self.note_state_with(&mut notices, number, ways, certificate)?;
         }
         Ok(notices)
     }
@@ -107,7 +119,7 @@ impl<'m> Finder<'_, 'm> {
         &self,
         notices: &mut Vec<Notice<'m>>,
         number: usize,
-        heads: &Marks,
+        ways: Ways<'_>,
         certificate: &mut NumberedCertificate,
     ) -> Result<(), OutOfMemory>
         ensures { OnOk result (unled_in notices.new.items
@@ -116,9 +128,9 @@ impl<'m> Finder<'_, 'm> {
         match row_of(self.machine, number) {
             Some(row) => {
                 note_unled(notices, &row, self.led)?;
-                note_dataless(notices, &row, heads, certificate)?;
+                note_dataless(notices, &row, ways, certificate)?;
                 self.note_errors(notices, &row)?;
-                note_choice(self.alloc, notices, &row, certificate)
+                note_choice(self.alloc, notices, &row, ways, certificate)
             }
             None => Ok(()),
         }

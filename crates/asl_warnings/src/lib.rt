@@ -4,6 +4,7 @@
 //! retriers to which no error comes; and, with a certificate, what no data comes to. A [`Notice::sentence`] tells it.
 #![tactic(auto)]
 
+mod behind;
 mod choosing;
 mod data;
 mod errors;
@@ -17,6 +18,7 @@ mod reason;
 mod rows;
 mod truths;
 
+pub use behind::Stop;
 pub use finding::notices;
 pub use notice::Notice;
 pub use reason::Reason;

@@ -89,7 +89,7 @@ impl Marks {
     }
 
     /// Marks those to which catchers lead.
-    fn mark_catchers(&mut self, catchers: &[Catcher]) -> Result<(), OutOfMemory>
+    pub(crate) fn mark_catchers(&mut self, catchers: &[Catcher]) -> Result<(), OutOfMemory>
         ensures { OnOk result (Adds self.old self.new (map caught_by catchers.now)) }
     {
         for catcher in catchers {
@@ -99,7 +99,7 @@ impl Marks {
     }
 
     /// Marks those that a type names: to which a Choice leads, and with which children start.
-    fn mark_kind(&mut self, kind: &Kind) -> Result<(), OutOfMemory>
+    pub(crate) fn mark_kind(&mut self, kind: &Kind) -> Result<(), OutOfMemory>
         ensures { OnOk result (Adds self.old self.new (named_in_kind kind.now)) }
     {
         match kind {
@@ -118,7 +118,7 @@ impl Marks {
     }
 
     /// Marks those to which rules lead.
-    fn mark_choices(&mut self, choices: &[ChoiceRule]) -> Result<(), OutOfMemory>
+    pub(crate) fn mark_choices(&mut self, choices: &[ChoiceRule]) -> Result<(), OutOfMemory>
         ensures { OnOk result (Adds self.old self.new (map chosen_by choices.now)) }
     {
         for choice in choices {
