@@ -2,10 +2,11 @@
 //!
 //! An [`Index`] finds members and elements in a text. [`Paths`] are those that stand in a value, in whichever spelling;
 //! [`faults_of_shape`] and [`fault_of_rule`] look into a shape, and a rule of a Choice, that is refused for what in it is
-//! wrong, and [`Kinds`] for values of another kind than their fields want. [`isnt_path`] and [`isnt_call`] say of a text why
-//! it isn't read.
+//! wrong, and [`Kinds`] for values of another kind than their fields want. [`isnt_path`], [`isnt_reference`]
+//! and [`isnt_call`] say of a text why it isn't read.
 #![tactic(auto)]
 
+mod calls;
 mod found;
 mod index;
 mod kinds;
@@ -26,4 +27,4 @@ pub use rule_faults::fault_of_rule;
 pub use shape_faults::faults_of_shape;
 pub use sources::{string_at, text_at, text_from};
 pub use templates::{SUFFIX, refusal_of};
-pub use unread::{INTO_CONTEXT, isnt_call, isnt_path};
+pub use unread::{isnt_call, isnt_path, isnt_reference};

@@ -124,7 +124,7 @@ impl<'s, 't, 'a> DefinitionPlaces<'_, 's, 't, 'a> {
             DefFault::NameTooLong => add(state.name, found),
             DefFault::DuplicateName => self.add_later(state, found),
             DefFault::NoSuchState => self.add_misnamed(scoped, field, found),
-            DefFault::BadTemplate => add(self.in_template(state, field)?, found),
+            DefFault::BadTemplate => self.add_template(state, field, found),
             DefFault::BadPath => self.add_paths(state, field, found),
             DefFault::BadRule => self.add_rules(state, field, found),
             DefFault::BadErrorEquals => self.add_error_names(state, field, found),

@@ -3,8 +3,8 @@ use crate::found::At;
 use crate::problems::{Kind, Problem};
 use crate::scopes::{Scoped, Text};
 use asl_check::{FindingFault, MissingPath};
-use asl_faults::{Index, Paths, SUFFIX, refusal_of, text_at, text_from, values_within};
-use asl_places::{Member, Spot, States};
+use asl_faults::{Index, Paths, refusal_of, text_at, text_from};
+use asl_places::{Member, Places, Spot, States};
 use asl_tree::OutOfMemory;
 use std::alloc::Global;
 use std::collections::BTreeMap;
@@ -14,6 +14,7 @@ use std::collections::BTreeMap;
 pub(crate) struct DefinitionPlaces<'p, 's, 'f, 'a> {
     pub(crate) alloc: Global,
     pub(crate) text: &'f [u8],
+    pub(crate) places: &'p Places<'f>,
     pub(crate) index: &'p Index<'s, 'a>,
     pub(crate) states: &'p States<'a>,
     /// All states by name; none where no problem is a complaint.
@@ -137,27 +138,8 @@ impl<'s, 't, 'a> DefinitionPlaces<'_, 's, 't, 'a> {
         }
     }
 
-    /// The first path or call in the template of a field that can't be read; or the field's value, or the state's name.
-    pub(crate) fn in_template(&self, state: Member, field: &str) -> Result<Spot, OutOfMemory> {
-        let Some(template) = self.index.member(state.value, field) else {
-            return Ok(state.name);
-        };
-        let item = self.has_item(state, field)?;
-        let mut first = None;
-        let values = values_within(
-            self.alloc,
-            self.index.outline(),
-            self.text.len(),
-            template.value,
-        )?;
-        for object in &values {
-            first = earlier(first, self.misspelled(*object, item)?);
-        }
-        Ok(first.unwrap_or(template.value))
-    }
-
     /// Whether paths to a Map's item are allowed in the template of a field.
-    fn has_item(&self, state: Member, field: &str) -> Result<bool, OutOfMemory> {
+    pub(crate) fn has_item(&self, state: Member, field: &str) -> Result<bool, OutOfMemory> {
         if field == "ResultSelector" {
             return Ok(false);
         }
@@ -178,30 +160,6 @@ impl<'s, 't, 'a> DefinitionPlaces<'_, 's, 't, 'a> {
         text_at(self.alloc, text_from(self.text, self.index.offset(value)))
     }
 
-    /// The first path or call of the object's own that can't be read.
-    fn misspelled(&self, object: Spot, item: bool) -> Result<Option<Spot>, OutOfMemory> {
-        let Some(mut members) = self.index.outline().members(object) else {
-            return Ok(None);
-        };
-        while let Some((name, member)) = members.next() {
-            if name.ends_with(SUFFIX)
-                && !self.is_spelled(member.value, item)?
-                && self.index.member(object, name) == Some(member)
-            {
-                return Ok(Some(member.value));
-            }
-        }
-        Ok(None)
-    }
-
-    /// Whether the value is a path or a call that can be read.
-    fn is_spelled(&self, value: Spot, item: bool) -> Result<bool, OutOfMemory> {
-        match self.said_at(value)? {
-            Some(said) => Ok(refusal_of(self.alloc, &said, item)?.is_none()),
-            None => Ok(false),
-        }
-    }
-
     /// The element of that index of the list in a state's field, the field's value, or the state's name.
     fn of_element(&self, name: &str, field: Option<&str>, index: Option<usize>) -> Spot {
         let (Some(state), Some(field)) = (self.states.state(name), field) else {
@@ -212,14 +170,5 @@ impl<'s, 't, 'a> DefinitionPlaces<'_, 's, 't, 'a> {
             Some(index) => self.index.element(whole, index).unwrap_or(whole),
             None => whole,
         }
-    }
-}
-
-/// Of two spots the one that stands first in the text.
-fn earlier(one: Option<Spot>, other: Option<Spot>) -> Option<Spot> {
-    match (one, other) {
-        (Some(one), Some(other)) if other.token < one.token => Some(other),
-        (None, other) => other,
-        (one, _) => one,
     }
 }

@@ -20,6 +20,7 @@ mod repeats;
 mod scopes;
 mod sources;
 mod telling;
+mod template_places;
 mod warnings;
 
 pub use complaints::{problems_of_declared, problems_of_value};

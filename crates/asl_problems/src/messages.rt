@@ -4,13 +4,9 @@ use crate::problems::{Kind, Problem};
 use asl_breaks::break_of;
 use asl_check::FindingFault;
 use asl_diagnostics::Rule;
-use asl_faults::{
-    INTO_CONTEXT, Words, isnt_call, isnt_path, refusal_of, sentence_of_kind, string_at, text_at,
-    text_from,
-};
+use asl_faults::{Words, isnt_path, sentence_of_kind, string_at, text_at, text_from};
 use asl_machine::DefFault;
 use asl_records::RecordFault;
-use asl_template::SpellingRefusal;
 use asl_tree::OutOfMemory;
 use std::alloc::Global;
 
@@ -40,9 +36,6 @@ fn message_of(
     let field = field_of(problem);
     match &problem.kind {
         Kind::NotJson(_) => break_of(alloc, text)?.words(alloc, text),
-        Kind::Complaint(DefFault::BadTemplate) => {
-            about_template(alloc, problem.rule, text, offset)
-        }
         Kind::Complaint(fault) => about_complaint(alloc, *fault, problem, text_from(text, offset)),
         Kind::Record(RecordFault::MissingField) => about_absence(alloc, field),
         Kind::Record(RecordFault::UnknownField) => about_unknown(alloc, field),
@@ -152,12 +145,29 @@ fn about_string(
     text: &[u8],
     isnt: &str,
 ) -> Result<String, OutOfMemory> {
-    match string_at(text).and_then(|string| str::from_utf8(string).ok()) {
-        Some(string) => {
-            let shown = shortened(alloc, string)?;
-            Ok(format!(in alloc; "{shown} {isnt}")?)
-        }
+    match about_text(alloc, text, isnt)? {
+        Some(sentence) => Ok(sentence),
         None => general(alloc, rule),
+    }
+}
+
+/// About a string with which the text goes on, and what it isn't; none where it goes on otherwise.
+pub(crate) fn about_text(
+    alloc: Global,
+    text: &[u8],
+    isnt: &str,
+) -> Result<Option<String>, OutOfMemory> {
+    match shown_at(alloc, text)? {
+        Some(shown) => Ok(Some(format!(in alloc; "{shown} {isnt}")?)),
+        None => Ok(None),
+    }
+}
+
+/// The string with which the text goes on, as it is shown; none where it goes on otherwise.
+pub(crate) fn shown_at(alloc: Global, text: &[u8]) -> Result<Option<String>, OutOfMemory> {
+    match string_at(text).and_then(|string| str::from_utf8(string).ok()) {
+        Some(string) => Ok(Some(shortened(alloc, string)?)),
+        None => Ok(None),
     }
 }
 
@@ -175,40 +185,6 @@ fn shortened(alloc: Global, string: &str) -> Result<String, OutOfMemory> {
     }
     shown.push_str("\"..")?;
     Ok(shown)
-}
-
-/// About a template, at whose place a path or a call stands that can't be read, or the template itself.
-fn about_template(
-    alloc: Global,
-    rule: &Rule,
-    text: &[u8],
-    offset: usize,
-) -> Result<String, OutOfMemory> {
-    if !is_named_as_path(text, offset) {
-        return general(alloc, rule);
-    }
-    let text = text_from(text, offset);
-    let Some(said) = text_at(alloc, text)? else {
-        return sentence(
-            alloc,
-            "The value of a field whose name ends in `.$` is no text",
-        );
-    };
-    let isnt = match refusal_of(alloc, &said, true)? {
-        Some(SpellingRefusal::BadPath) => isnt_path(alloc, &said)?,
-        Some(SpellingRefusal::BadIntrinsic) => isnt_call(alloc, &said)?,
-        _ => INTO_CONTEXT,
-    };
-    about_string(alloc, rule, text, isnt)
-}
-
-/// Whether a value begins at the byte that has a name in front which ends in `.$`.
-fn is_named_as_path(text: &[u8], offset: usize) -> bool {
-    let before = text[..offset.min(text.len())].trim_ascii_end();
-    match before.strip_suffix(b":") {
-        Some(name) => name.trim_ascii_end().ends_with(b".$\""),
-        None => false,
-    }
 }
 
 /// About a path to a value of another kind.

@@ -70,11 +70,13 @@ impl<'s, 'f, 'a> Subject<'s, 'f, 'a> {
     /// What is looked for places in, where it is a definition that is JSON.
     fn definition<'p>(&'p self, alloc: Global) -> Option<DefinitionPlaces<'p, 's, 'f, 'a>> {
         let text = self.file.text;
+        let places = &self.places;
         let (scoped, paths) = (&self.scoped, &self.paths);
         match (&self.index, self.states) {
             (Some(index), Some(states)) => Some(DefinitionPlaces {
                 alloc,
                 text,
+                places,
                 index,
                 states,
                 scoped,
