@@ -1,10 +1,10 @@
 //! Tests whose truth the shape of the data settles.
 
-ghost use Rattle.std.specs.Prelude.{◌<◌, ◌≤◌, length};
+ghost use Rattle.std.specs.Prelude.{◌<◌, ◌≤◌, IfOk, length};
 
 use asl_choice::{Comparison, Operand, Test, ValueKind};
 use asl_numbered::{NodeKinds, Shapes};
-use asl_path::RefPath;
+use asl_path::{PathRefusal, RefPath, parse, print};
 use asl_shape_paths::find_at;
 use asl_shape_rules::let_through_at;
 use asl_tree::OutOfMemory;
@@ -25,13 +25,15 @@ pub(crate) fn settled_truth(
         return Ok(Some(false));
     }
     match test {
-        Test::And(tests) => settled_of_all(alloc, shapes, tests, number, false),
-        Test::Or(tests) => settled_of_all(alloc, shapes, tests, number, true),
+        Test::And(tests) => settled_of_and(alloc, shapes, tests, number),
+        Test::Or(tests) => settled_of_or(alloc, shapes, tests, number),
         Test::Not(part) => match settled_truth(alloc, shapes, part, number)? {
             Some(truth) => Ok(Some(!truth)),
             None => Ok(None),
         },
-        Test::IsPresent { variable, wanted } => settled_presence(shapes, variable, *wanted, number),
+        Test::IsPresent { variable, wanted } => {
+            settled_presence(alloc, shapes, variable, *wanted, number)
+        }
         Test::IsOfKind {
             variable,
             kind,
@@ -65,32 +67,75 @@ fn is_never_true(
     }
 }
 
-/// So for tests of which one with that value decides: `true` for `Or`, `false` for `And`.
+/// So for tests of an `And`: one that is false decides, and each is looked at for the trees for which those in front of it
+/// are true.
 #[cycle(settled)]
-fn settled_of_all(
+fn settled_of_and(
     alloc: Global,
     shapes: &mut Shapes,
     tests: &[Test],
     number: usize,
-    deciding: bool,
 ) -> Result<Option<bool>, OutOfMemory>
     requires { number < length shapes.old }
     ensures { length shapes.old ≤ length shapes.new }
 {
-    let mut settled = Some(!deciding);
+    let mut settled = Some(true);
+    let mut narrowed = number;
+    for test in tests {
+        match settled_truth(alloc, shapes, test, narrowed)? {
+            Some(false) => return Ok(Some(false)),
+            Some(true) => {}
+            None => settled = None,
+        }
+        narrowed = narrowed_by(alloc, shapes, test, narrowed)?;
+    }
+    Ok(settled)
+}
+
+/// The number of the shape of the trees for which the test is true; the same number where a path of it may name nothing.
+#[tactic(auto, using(asl_numbered::specs::Laws::keeps_longer))]
+fn narrowed_by(
+    alloc: Global,
+    shapes: &mut Shapes,
+    test: &Test,
+    number: usize,
+) -> Result<usize, OutOfMemory>
+    requires { number < length shapes.old }
+    ensures within { IfOk result (λ narrowed. narrowed < length shapes.new) }
+    ensures longer { length shapes.old ≤ length shapes.new }
+{
+    match let_through_at(alloc, shapes, test, number)? {
+        Ok(through) => Ok(through),
+        Err(_) => Ok(number),
+    }
+}
+
+/// So for tests of an `Or`: one that is true decides.
+#[cycle(settled)]
+fn settled_of_or(
+    alloc: Global,
+    shapes: &mut Shapes,
+    tests: &[Test],
+    number: usize,
+) -> Result<Option<bool>, OutOfMemory>
+    requires { number < length shapes.old }
+    ensures { length shapes.old ≤ length shapes.new }
+{
+    let mut settled = Some(false);
     for test in tests {
         match settled_truth(alloc, shapes, test, number)? {
-            Some(truth) if truth == deciding => return Ok(Some(deciding)),
-            Some(_) => {}
+            Some(true) => return Ok(Some(true)),
+            Some(false) => {}
             None => settled = None,
         }
     }
     Ok(settled)
 }
 
-/// So for whether a path names something, where that is wanted or not: it is settled where the path always does.
+/// So for whether a path names something, where that is wanted or not: it is settled where the path always does, or never.
 #[tactic(auto, using(asl_numbered::specs::Laws::keeps_longer))]
 fn settled_presence(
+    alloc: Global,
     shapes: &mut Shapes,
     path: &RefPath,
     wanted: bool,
@@ -99,9 +144,33 @@ fn settled_presence(
     requires { number < length shapes.old }
     ensures { length shapes.old ≤ length shapes.new }
 {
-    match find_at(shapes, number, path)? {
-        Ok(_) => Ok(Some(wanted)),
-        Err(_) => Ok(None),
+    if find_at(shapes, number, path)?.is_ok() {
+        return Ok(Some(wanted));
+    }
+    match is_never_there(alloc, shapes, path, number)? {
+        true => Ok(Some(!wanted)),
+        false => Ok(None),
+    }
+}
+
+/// Whether the path names something in no tree of the shape.
+fn is_never_there(
+    alloc: Global,
+    shapes: &mut Shapes,
+    path: &RefPath,
+    number: usize,
+) -> Result<bool, OutOfMemory>
+    requires { number < length shapes.old }
+    ensures { length shapes.old ≤ length shapes.new }
+{
+    let printed = print(alloc, path)?;
+    match parse(alloc, &printed) {
+        Ok(variable) => {
+            let wanted = true;
+            is_never_true(alloc, shapes, &Test::IsPresent { variable, wanted }, number)
+        }
+        Err(PathRefusal::OutOfMemory) => Err(OutOfMemory),
+        Err(_) => Ok(false),
     }
 }
 
