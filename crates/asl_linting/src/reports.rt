@@ -5,7 +5,7 @@ use asl_diagnostics::{
 };
 use asl_files::{LintFormat, Look, look_of, with_break};
 use asl_lint::{File, Linted};
-use asl_tree::{OutOfMemory, in_line, same};
+use asl_tree::{OutOfMemory, in_line};
 use std::alloc::Global;
 
 /// What was found so far.
@@ -252,17 +252,13 @@ fn is_repeated(kept: &[Diagnostic], diagnostic: &Diagnostic) -> bool {
         .any(|it| says_the_same(it, diagnostic))
 }
 
-/// Whether two diagnostics at one place say the same.
+/// Whether two diagnostics at one place say the same, perhaps with another example: a rule that a Choice breaks by a field of
+/// its own, such as `OutputPath`, is broken at each way out of it.
 fn says_the_same(one: &Diagnostic, other: &Diagnostic) -> bool {
     one.rule.id == other.rule.id
         && one.state == other.state
         && one.field == other.field
         && one.message == other.message
-        && match (&one.example, &other.example) {
-            (None, None) => true,
-            (Some(one), Some(other)) => same(one, other),
-            _ => false,
-        }
 }
 
 /// The diagnostics in a format, as they go to standard output.
