@@ -13,7 +13,7 @@ BLANK = re.compile(r"[ \t\r\n]*")
 WORD = re.compile(r"[-+.\w]+")
 MAY_NAME_NOTHING = re.compile(r"(\$.*) may name nothing", flags=re.DOTALL)
 STEP = re.compile(r"""\.(?P<dotted>[^.\[\]'",()\s]+)|\['(?P<single>[^']*)'\]|\["(?P<double>[^"]*)"\]|\[(?P<index>\d+)\]""")
-# An item's own paths are told without what stands in front of them.
+# What stands in front of an item's own paths.
 ITEM = "$$.Map.Item.Value"
 # Older names of fields, each with the one under which it is told.
 OLDER = {"Iterator": "ItemProcessor", "Parameters": "ItemSelector"}
@@ -136,7 +136,7 @@ def fault_of_place(text, diagnostic):
         is_whole = diagnostic["rule"] == "NotWhole"
         return None if is_whole else fault_in_declared(path, diagnostic.get("state"), diagnostic.get("field"))
     told = MAY_NAME_NOTHING.fullmatch(diagnostic["message"])
-    other = fault_of_path(places, at, told[1]) if told else None
+    other = fault_of_path(places, at, told[1].replace(ITEM, "$")) if told else None
     if other or "state" not in diagnostic:
         return other
     return fault_of_state(places, at, path, diagnostic["state"], diagnostic.get("field"))

@@ -27,4 +27,4 @@ pub use rule_faults::fault_of_rule;
 pub use shape_faults::faults_of_shape;
 pub use sources::{string_at, text_at, text_from};
 pub use templates::{SUFFIX, refusal_of};
-pub use unread::{isnt_call, isnt_path, isnt_reference};
+pub use unread::{goes_into_item, isnt_call, isnt_path, isnt_reference};

@@ -1,7 +1,7 @@
 //! What is said of texts that aren't read as paths or as calls.
 use crate::calls::{Fault, Part, Reading};
-use asl_intrinsic::{CallRefusal, parse as parse_call, parse_reference};
-use asl_path::{PathRefusal, parse as parse_path};
+use asl_intrinsic::{Arg, CallRefusal, parse as parse_call, parse_reference};
+use asl_path::{PathRefusal, parse as parse_path, print};
 use asl_tree::{OutOfMemory, Tree};
 use std::alloc::Global;
 
@@ -129,6 +129,43 @@ fn about_argument(alloc: Global, text: &str, item: bool) -> Result<String, OutOf
         }
     }
     Ok(String::from_str(alloc, "has an argument that isn't read as a reference path")?)
+}
+
+/// Whether a path, as it is printed, stands in a text as one into a Map's item and not as one into the input. The text is a
+/// path or a call. Refuses only where an allocation was refused.
+pub fn goes_into_item(alloc: Global, text: &str, path: &str) -> Result<bool, OutOfMemory> {
+    if text.starts_with('$') {
+        return Ok(stands_as(alloc, text, path)? == Some(true));
+    }
+    let mut into_item = false;
+    let mut reading = Reading::new(text);
+    for _ in 0..=text.len() {
+        match reading.next_part() {
+            Part::Path(from, to) => match stands_as(
+                alloc,
+                text.get(from..to).unwrap_or(""),
+                path,
+            )? {
+                Some(true) => into_item = true,
+                Some(false) => return Ok(false),
+                None => {}
+            },
+            Part::Other => {}
+            Part::Fault(_) | Part::End => break,
+        }
+    }
+    Ok(into_item)
+}
+
+/// Whether a text says that path as one into a Map's item; none where it doesn't say it.
+fn stands_as(alloc: Global, text: &str, path: &str) -> Result<Option<bool>, OutOfMemory> {
+    let (said, is_of_item) = match parse_reference(alloc, text, true)? {
+        Some(Arg::Path(said)) => (said, false),
+        Some(Arg::ItemValue(said)) => (said, true),
+        _ => return Ok(None),
+    };
+    let printed = print(alloc, &said)?;
+    Ok((printed.as_str() == path).then_some(is_of_item))
 }
 
 /// Which of the text's characters begins at that byte, counted from 1.

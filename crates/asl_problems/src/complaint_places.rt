@@ -11,6 +11,11 @@ use asl_tree::OutOfMemory;
 /// The fields that a machine must have.
 const MACHINE_FIELDS: [&str; 2] = ["StartAt", "States"];
 
+/// The types of states.
+const TYPES: [&str; 8] = [
+    "Pass", "Task", "Choice", "Wait", "Succeed", "Fail", "Parallel", "Map",
+];
+
 /// The fields of which a Wait state has one.
 const WAITS: [&str; 4] = ["Seconds", "SecondsPath", "Timestamp", "TimestampPath"];
 
@@ -129,8 +134,8 @@ impl<'s, 't, 'a> DefinitionPlaces<'_, 's, 't, 'a> {
             DefFault::BadRule => self.add_rules(state, field, found),
             DefFault::BadErrorEquals => self.add_error_names(state, field, found),
             DefFault::EmptyList => self.add_empty_lists(state, field, found),
-            DefFault::UnknownType
-            | DefFault::NextOrEnd
+            DefFault::UnknownType => self.add_unknown_type(state, found),
+            DefFault::NextOrEnd
             | DefFault::HeartbeatNotSmaller
             | DefFault::TooLarge
             | DefFault::OutOfMemory => add(self.index.field_or_name(state, field), found),
@@ -348,16 +353,36 @@ impl<'s, 't, 'a> DefinitionPlaces<'_, 's, 't, 'a> {
         found: &mut Vec<Found>,
     ) -> Result<(), OutOfMemory> {
         if field != "Catch" {
-            return add(self.index.field_or_name(state, field), found);
+            return self.add_path_of(state.value, field, found);
         }
         for catcher in self.elements_in(state, field)? {
-            if let Some(path) = self.index.member(catcher, "ResultPath") {
-                if self.is_no_path(path.value)? {
-                    add(path.value, found)?;
-                }
-            }
+            self.add_path_of(catcher, "ResultPath", found)?;
         }
         Ok(())
+    }
+
+    /// Adds the text in a field of an object, if it is no reference path.
+    fn add_path_of(
+        &self,
+        object: Spot,
+        field: &str,
+        found: &mut Vec<Found>,
+    ) -> Result<(), OutOfMemory> {
+        match self.index.member(object, field) {
+            Some(path) if self.is_no_path(path.value)? => add(path.value, found),
+            _ => Ok(()),
+        }
+    }
+
+    /// Adds the type of a state, if there is none of that name.
+    fn add_unknown_type(&self, state: Member, found: &mut Vec<Found>) -> Result<(), OutOfMemory> {
+        let Some(value) = self.value_in(state, "Type") else {
+            return Ok(());
+        };
+        match self.said_at(value)? {
+            Some(said) if !TYPES.iter().any(|it| *it == said.as_str()) => add(value, found),
+            _ => Ok(()),
+        }
     }
 
     /// Adds what is wrong with each rule of a Choice that is refused.
@@ -383,17 +408,30 @@ impl<'s, 't, 'a> DefinitionPlaces<'_, 's, 't, 'a> {
         found: &mut Vec<Found>,
     ) -> Result<(), OutOfMemory> {
         if field != "Retry" && field != "Catch" {
-            return add(self.index.field_or_name(state, field), found);
+            return self.add_empty_list(state.value, field, found);
         }
         for element in self.elements_in(state, field)? {
-            if let Some(errors) = self.index.member(element, "ErrorEquals") {
-                let is_empty = self.index.element(errors.value, 0).is_none();
-                if is_empty && self.index.is_list(errors.value) {
-                    add(errors.value, found)?;
-                }
-            }
+            self.add_empty_list(element, "ErrorEquals", found)?;
         }
         Ok(())
+    }
+
+    /// Adds the list in a field of an object, if it is empty.
+    fn add_empty_list(
+        &self,
+        object: Spot,
+        field: &str,
+        found: &mut Vec<Found>,
+    ) -> Result<(), OutOfMemory> {
+        match self.index.member(object, field) {
+            Some(list) if self.is_empty_list(list.value) => add(list.value, found),
+            _ => Ok(()),
+        }
+    }
+
+    /// Whether an empty list stands there.
+    fn is_empty_list(&self, value: Spot) -> bool {
+        self.index.is_list(value) && self.index.element(value, 0).is_none()
     }
 
     /// Adds the names of errors with `States.ALL` that doesn't stand alone, or behind which another element stands.

@@ -4,7 +4,9 @@ use crate::problems::{Kind, Problem};
 use asl_breaks::break_of;
 use asl_check::FindingFault;
 use asl_diagnostics::Rule;
-use asl_faults::{Words, isnt_path, sentence_of_kind, string_at, text_at, text_from};
+use asl_faults::{
+    Words, goes_into_item, isnt_path, sentence_of_kind, string_at, text_at, text_from,
+};
 use asl_machine::DefFault;
 use asl_records::RecordFault;
 use asl_tree::OutOfMemory;
@@ -42,7 +44,7 @@ fn message_of(
         Kind::Record(RecordFault::WrongKind) => about_wrong_kind(alloc, problem.rule, field),
         Kind::Finding(FindingFault::WrongKind, _) => about_kind(alloc, field),
         Kind::Finding(FindingFault::PathMayBeMissing, Some(path)) => {
-            Ok(format!(in alloc; "{} may name nothing", path.text)?)
+            about_missing(alloc, &path.text, text_from(text, offset))
         }
         Kind::Odd { sentence, .. } => Ok(sentence.clone()?),
         Kind::Repeated { .. } => about_string(
@@ -136,6 +138,21 @@ fn about_left_out(alloc: Global, field: &str) -> Result<String, OutOfMemory> {
     Ok(format!(in alloc;
         "What `{field}` says isn't read: it belongs to a part of the States Language that is left out"
     )?)
+}
+
+/// About a path that may name nothing, where the text goes on with it, or with a call in which it stands: a path into the
+/// item of a Map is told as one.
+fn about_missing(alloc: Global, path: &str, text: &[u8]) -> Result<String, OutOfMemory> {
+    let is_of_item = match text_at(alloc, text)? {
+        Some(said) => goes_into_item(alloc, &said, path)?,
+        None => false,
+    };
+    match path.strip_prefix("$") {
+        Some(part) if is_of_item => {
+            Ok(format!(in alloc; "$$.Map.Item.Value{part} may name nothing")?)
+        }
+        _ => Ok(format!(in alloc; "{path} may name nothing")?),
+    }
 }
 
 /// About a string with which the text goes on, and what it isn't; or what the rule says, where it goes on otherwise.
