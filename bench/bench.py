@@ -40,8 +40,9 @@ Each form is a kind of text in growing sizes; the names of all forms, or those t
   numbers, of texts with escapes, of records whose fields don't stand in byte order, which is read and no step taken;
 - read-definition: a definition of so many megabytes, with templates, rules and retriers, which is read and no step taken.
   Its floor is the JSON value that is made of the text and dropped again: half of the instructions;
-- read-certificate: a certificate of so many megabytes, which is read and checked. Two fifths of the instructions make the
-  trees of the entries of tokens, an eighth drops them again, and two fifths read them as shapes.
+- read-certificate: a certificate of so many megabytes, which is read and checked. Half of the instructions read the keywords
+  of shapes as levels and put the shapes into the table, a sixth takes the tokens, and a twelfth makes the trees of the
+  keywords other than properties.
 
 For each size: the processor time of the program (user and system, the fastest of three runs) less that of a bare start,
 its peak memory, the time that json.loads takes for what the program reads and prints (fastest of three), the ratio of
