@@ -1,5 +1,5 @@
 use Rattle.std.proofs.Common.{◌-◌, length}
-use Rattle.asl_problems.proofs.template_places.DefinitionPlaces.add_of_object.Given as goal
+use Rattle.asl_problems.proofs.definition_places.DefinitionPlaces.add_of_object.Given as goal
 
 abbrev pub decreases-loop-name : goal.decreases-loop-name
 decreases-loop-name l = length l.members.0 - l.members.1
