@@ -1,8 +1,9 @@
 //! From a definition and declared shapes to explanations, on standard output.
 
+use crate::inferring::Texts;
 use asl_command_line::ExplainRequest;
 use asl_explain::{Explained, explain_texts};
-use asl_files::{Given, ROUNDS, end_given, finish, print_text, text_or_status};
+use asl_files::{ROUNDS, end_given, finish, print_text, text_or_status};
 use asl_tool::{Closing, RunFault};
 use asl_tree::{OutOfMemory, quoted};
 use std::alloc::Global;
@@ -22,16 +23,14 @@ pub(crate) fn explain_files<R: Files + Input + Print + Eprint + AllocGlobal>(
         Ok(text) => text,
         Err(status) => return status,
     };
-    let given = Given {
-        definition: &definition,
-        declared: Some(&declared),
-        certificate: None,
-        order: "the definition comes first, then the declared shapes",
+    let texts = Texts {
+        definition,
+        declared,
     };
     end_given(
         rt,
-        explained_on(rt, request, &definition, &declared),
-        &given,
+        explained_on(rt, request, &texts.definition, &texts.declared),
+        &texts.given(),
     )
 }
 

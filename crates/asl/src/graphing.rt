@@ -16,29 +16,41 @@ pub(crate) fn graph_file<R: Files + Input + Print + Eprint + AllocGlobal>(
         Ok(text) => text,
         Err(status) => return status,
     };
-    let Some(name) = request.declared else {
-        return graph_given(rt, request, &definition, None);
+    let declared = match request.declared {
+        None => None,
+        Some(name) => match text_or_status(rt, name) {
+            Ok(text) => Some(text),
+            Err(status) => return status,
+        },
     };
-    match text_or_status(rt, name) {
-        Ok(declared) => graph_given(rt, request, &definition, Some(&declared)),
-        Err(status) => status,
-    }
-}
-
-/// Writes a picture of a definition, and gives the exit status. A refused text is told on standard error.
-fn graph_given<R: Print + Eprint + AllocGlobal>(
-    rt: &R,
-    request: &GraphRequest<'_>,
-    definition: &[u8],
-    declared: Option<&[u8]>,
-) -> u8 {
-    let given = Given {
+    let texts = Texts {
         definition,
         declared,
-        certificate: None,
-        order: "--declared gives the declared shapes of the definition",
     };
-    end_given(rt, graphed_on(rt, request, definition, declared), &given)
+    end_given(
+        rt,
+        graphed_on(rt, request, &texts.definition, texts.declared.as_deref()),
+        &texts.given(),
+    )
+}
+
+/// The texts of a picture.
+#[derive(Drop)]
+struct Texts {
+    definition: Vec<u8>,
+    declared: Option<Vec<u8>>,
+}
+
+impl Texts {
+    /// The texts as they were given.
+    fn given(&self) -> Given<'_> {
+        Given {
+            definition: &self.definition,
+            declared: self.declared.as_deref(),
+            certificate: None,
+            order: "--declared gives the declared shapes of the definition",
+        }
+    }
 }
 
 /// Writes a picture of a definition, and gives the exit status.

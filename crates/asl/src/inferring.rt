@@ -32,14 +32,14 @@ pub(crate) fn verify_files<R: Files + Input + Print + Eprint + AllocGlobal>(
 
 /// The two texts of which something is inferred.
 #[derive(Drop)]
-struct Texts {
-    definition: Vec<u8>,
-    declared: Vec<u8>,
+pub(crate) struct Texts {
+    pub(crate) definition: Vec<u8>,
+    pub(crate) declared: Vec<u8>,
 }
 
 impl Texts {
     /// The texts as they were given.
-    fn given(&self) -> Given<'_> {
+    pub(crate) fn given(&self) -> Given<'_> {
         Given {
             definition: &self.definition,
             declared: Some(&self.declared),
