@@ -3,9 +3,9 @@
 ghost use Rattle.std.specs.Prelude.{◌≡◌, length, option_map, slice_get, position, bytes_eq, map, string_bytes};
 ghost use Rattle.asl_model.specs.Machine as model;
 ghost use Rattle.asl_machine_table.specs.Table.{IsWhole, Shows, scope_in, states_in, table_view};
-ghost use Rattle.asl_states.specs.Machine.{state_view, scope_view};
+ghost use Rattle.asl_states.specs.Machine.{state_view, scope_view, target_name};
 
-use asl_states::{Scope, State, find_all};
+use asl_states::{Scope, State, Target, find_all};
 use indexmap::IndexSet;
 use std::marker::Model;
 
@@ -86,6 +86,19 @@ impl Machine {
         ensures number { result ≡ position (bytes_eq name.now) (table_view self.now).names }
     {
         self.names.get_index_of(name)
+    }
+
+    /// The number of the state that a target names: its own one where the name stands there, as it does for each target of
+    /// the machine's states. No other one is looked up by its name.
+    pub fn state_of(&self, target: &Target) -> Option<usize>
+        ensures number { result
+            ≡ position (bytes_eq (target_name target.now)) (table_view self.now).names }
+    {
+        self.is_shown();
+        match self.name(target.number) {
+            Some(name) if name == target.name.as_str() => Some(target.number),
+            _ => self.state_named(&target.name),
+        }
     }
 
     /// How many states there are.
