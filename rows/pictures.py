@@ -89,19 +89,6 @@ def without_data(picture, warned):
     return found
 
 
-def behind_errors(picture):
-    """The states to which a way leads on from one with an error, through the ends of scopes, too: lint says nothing of data there."""
-    ways = {(name, scope[-1][0]) for scope, name, kind, _ in picture.boxes if kind == "Succeed" and scope}
-    for scope, source, target, _, _ in picture.lines:
-        owner = scope[-1][0] if scope else None
-        ways.add((owner if source == START else source, owner if target == END else target))
-    found, before = set(picture.red), None
-    while found != before:
-        before = found
-        found = before | {target for source, target in ways if source in before and target is not None}
-    return found
-
-
 def drawing_of(definition, errors=(), warned=None):
     """What is to be drawn of a definition. With declared shapes: the states with errors, and those without data by warnings."""
     picture = Picture([], [], set(), set())
@@ -265,6 +252,6 @@ def fault_between(picture, other):
             return f"a box is {one} in place of {two}"
     if len(picture.boxes) != len(other.boxes):
         return f"{len(picture.boxes)} boxes are drawn in place of {len(other.boxes)}"
-    if picture.red != other.red or other.grey - picture.grey or picture.grey - other.grey - behind_errors(other):
+    if picture.red != other.red or picture.grey != other.grey:
         return f"red is {sorted(picture.red ^ other.red)} or grey {sorted(picture.grey ^ other.grey)} in one alone"
     return fault_of_lines(picture.lines, other.lines)

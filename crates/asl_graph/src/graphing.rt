@@ -29,8 +29,9 @@ pub enum Drawn {
 ///
 /// With declared shapes, also a JSON text, a certificate is inferred leniently in at most `max_rounds` rounds, as
 /// [`infer_leniently`](asl_infer::infer_leniently) does; where its rounds don't settle, nothing is drawn. States at which it
-/// breaks a rule are marked, and so are states whose certified input no tree has. With `with_shapes` the lines tell the shapes
-/// of what flows along them; without declared shapes nothing is known of that.
+/// breaks a rule are marked, and so are states whose certified input no tree has, unless a way leads to them from a broken
+/// rule that may stop data. With `with_shapes` the lines tell the shapes of what flows along them; without declared shapes
+/// nothing is known of that.
 ///
 /// Refused as by [`read_subject`]; without declared shapes as by [`read_definition`].
 pub fn graph_texts<'t>(

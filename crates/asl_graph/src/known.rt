@@ -15,6 +15,7 @@ use asl_infer::infer_leniently;
 use asl_machine_table::Machine;
 use asl_records::{Declared, NumberedCertificate};
 use asl_tree::OutOfMemory;
+use asl_warnings::{Stop, behind_stops};
 use std::alloc::Global;
 
 /// What is known of a machine by a certificate that is inferred leniently.
@@ -46,8 +47,10 @@ impl Known {
             return Ok(None);
         };
         let findings = find_all(alloc, machine, declared, &mut certificate)?;
-        let looks = looks_of(alloc, machine, &certificate, &findings)?;
         let flows = flows_of(alloc, machine, declared, with_shapes, &mut certificate)?;
+        let stops = stops_of(alloc, &findings)?;
+        let behind = behind_stops(alloc, machine, &mut certificate, &stops)?;
+        let looks = looks_of(alloc, machine, &certificate, &behind, &findings)?;
         Ok(Some(Known {
             certificate,
             flows,
@@ -78,30 +81,66 @@ fn flows_of(
     }
 }
 
-/// How each state looks.
+/// Where the findings stop data.
+fn stops_of(alloc: Global, findings: &[Located]) -> Result<Vec<Stop<'_>>, OutOfMemory> {
+    let mut stops = Vec::new(alloc);
+    for located in findings {
+        let finding = &located.finding;
+        if let Some(stop) = Stop::of(&finding.state, &finding.field, finding.fault) {
+            stops.push(stop)?;
+        }
+    }
+    Ok(stops)
+}
+
+/// How each state looks; of those that are behind a stop, by their numbers, it isn't known that no data comes.
 fn looks_of(
     alloc: Global,
     machine: &Machine,
     certificate: &NumberedCertificate,
+    behind: &[bool],
     findings: &[Located],
 ) -> Result<Vec<Look>, OutOfMemory> {
     let mut looks = Vec::with_capacity(alloc, machine.states())?;
     for number in 0..machine.states() {
-        looks.push(look_by_data(machine, certificate, number))?;
+        looks.push(look_by_data(machine, certificate, behind, number))?;
     }
     mark_findings(machine, findings, &mut looks);
     Ok(looks)
 }
 
-/// Whether data comes to the state of that number.
-fn look_by_data(machine: &Machine, certificate: &NumberedCertificate, number: usize) -> Look {
+/// How the state of that number looks by the data that comes to it.
+fn look_by_data(
+    machine: &Machine,
+    certificate: &NumberedCertificate,
+    behind: &[bool],
+    number: usize,
+) -> Look {
+    let may_have_data = has_data(machine, certificate, number) || is_behind(behind, number);
+    if may_have_data {
+        Look::Plain
+    } else {
+        Look::Unreached
+    }
+}
+
+/// Whether data of the certified input comes to the state of that number.
+fn has_data(machine: &Machine, certificate: &NumberedCertificate, number: usize) -> bool {
     let entry = match machine.name(number) {
         Some(name) => certificate.states.get(name),
         None => None,
     };
     match entry {
-        Some(entry) if certificate.shapes.inhabited(entry.input) == Some(true) => Look::Plain,
-        _ => Look::Unreached,
+        Some(entry) => certificate.shapes.inhabited(entry.input) == Some(true),
+        None => false,
+    }
+}
+
+/// Whether the state of that number is behind a stop.
+fn is_behind(behind: &[bool], number: usize) -> bool {
+    match behind.get(number) {
+        Some(is_behind) => *is_behind,
+        None => false,
     }
 }
 

@@ -12,8 +12,9 @@
 //!   to a state that catches errors is dashed and tells their names.
 //! - Long names are broken into lines; a rule, names of errors and a shape are cut behind 60 characters, with an
 //!   ellipsis. A line break or another control character stands as a blank.
-//! - With declared shapes a state at which a rule is broken is red, and one to which no data comes grey. Then a line
-//!   can tell the shape of the data that goes along it, in the notation of `asl_notation`.
+//! - With declared shapes a state at which a rule is broken is red, and one to which no data comes grey; a state behind
+//!   a broken rule that may stop data isn't grey. Then a line can tell the shape of the data that goes along it, in the
+//!   notation of `asl_notation`.
 //!
 //! A picture grows with the number of states and lines. Web pages limit what they show: GitHub takes up to 500 lines
 //! between states, and 50,000 characters.

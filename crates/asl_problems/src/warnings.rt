@@ -4,7 +4,6 @@ ghost use Rattle.asl_diagnostics.specs.declared.Severity.{Severity};
 ghost use Rattle.asl_problems.specs.Told.{errors_of};
 
 use crate::problems::{Kind, Problem};
-use asl_check::FindingFault;
 use asl_diagnostics::{Severity, rule_of_warning};
 use asl_machine::Machine;
 use asl_records::NumberedCertificate;
@@ -53,33 +52,7 @@ fn stop_of(problem: &Problem) -> Option<Stop<'_>> {
     let Kind::Finding(fault, _) = problem.kind else {
         return None;
     };
-    let (state, field) = (problem.state.as_deref()?, problem.field.as_deref()?);
-    stops_data(fault, field).then_some(Stop { state, field })
-}
-
-/// Whether an inference takes nothing further along the way on which that rule is broken. Of a path by which a Wait finds its
-/// time it takes all data further, and so of a task that isn't declared, or isn't given what it takes; and where no rule of a
-/// Choice is true no way goes on.
-fn stops_data(fault: FindingFault, field: &str) -> bool {
-    match fault {
-        FindingFault::TaskUndeclared
-        | FindingFault::TaskUnknown
-        | FindingFault::NoDefault
-        | FindingFault::PayloadNotTaken => false,
-        FindingFault::PathMayBeMissing | FindingFault::WrongKind => {
-            field != "SecondsPath" && field != "TimestampPath"
-        }
-        FindingFault::NotCertified
-        | FindingFault::NotAState
-        | FindingFault::StartInput
-        | FindingFault::ResultMayNotFit
-        | FindingFault::IntrinsicMayFail
-        | FindingFault::OutputNotCertified
-        | FindingFault::NextInput
-        | FindingFault::ScopeOutput
-        | FindingFault::BranchInput
-        | FindingFault::CatchInput => true,
-    }
+    Stop::of(problem.state.as_deref()?, problem.field.as_deref()?, fault)
 }
 
 /// Adds each of the notices.

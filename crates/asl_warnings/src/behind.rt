@@ -8,6 +8,7 @@ use asl_machine_table::Machine;
 use asl_numbered::Shapes;
 use asl_records::NumberedCertificate;
 use asl_shape_rules::let_through_at;
+use asl_state_edges::FindingFault;
 use asl_states::{ChoiceRule, Kind, Settings, State};
 use asl_tree::OutOfMemory;
 use std::alloc::Global;
@@ -17,6 +18,53 @@ use std::alloc::Global;
 pub struct Stop<'n> {
     pub state: &'n str,
     pub field: &'n str,
+}
+
+impl<'n> Stop<'n> {
+    /// The stop where the state of that name breaks that rule in that field, if data may stop there.
+    pub fn of(state: &'n str, field: &'n str, fault: FindingFault) -> Option<Stop<'n>> {
+        stops_data(fault, field).then_some(Stop { state, field })
+    }
+}
+
+/// Whether an inference takes nothing further along the way on which that rule is broken. Of a path by which a Wait finds its
+/// time it takes all data further, and so of a task that isn't declared, or isn't given what it takes; and where no rule of a
+/// Choice is true no way goes on.
+fn stops_data(fault: FindingFault, field: &str) -> bool {
+    match fault {
+        FindingFault::TaskUndeclared
+        | FindingFault::TaskUnknown
+        | FindingFault::NoDefault
+        | FindingFault::PayloadNotTaken => false,
+        FindingFault::PathMayBeMissing | FindingFault::WrongKind => {
+            field != "SecondsPath" && field != "TimestampPath"
+        }
+        FindingFault::NotCertified
+        | FindingFault::NotAState
+        | FindingFault::StartInput
+        | FindingFault::ResultMayNotFit
+        | FindingFault::IntrinsicMayFail
+        | FindingFault::OutputNotCertified
+        | FindingFault::NextInput
+        | FindingFault::ScopeOutput
+        | FindingFault::BranchInput
+        | FindingFault::CatchInput => true,
+    }
+}
+
+/// Whether each state, by its number, is one to which a way leads on from one of the stops, so that more data may come to it
+/// than the certificate says.
+///
+/// Further shapes may stand in the certificate's table afterwards; each that stood there keeps its number. Refuses only
+/// where an allocation was refused.
+pub fn behind_stops(
+    alloc: Global,
+    machine: &Machine,
+    certificate: &mut NumberedCertificate,
+    stops: &[Stop<'_>],
+) -> Result<Vec<bool>, OutOfMemory> {
+    let behind = mark_behind(alloc, machine, certificate, stops)?;
+    Ok(behind.into_flags())
 }
 
 /// Marks the states to which a way leads on from one of the stops: by what the field at fault hands on, and from there by

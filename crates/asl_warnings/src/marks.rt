@@ -42,6 +42,11 @@ impl Marks {
         }
     }
 
+    /// Whether each state is marked, by its number.
+    pub(crate) fn into_flags(self) -> Vec<bool> {
+        self.marks
+    }
+
     /// The number of the state that was marked as that one, counted from 0.
     pub(crate) fn nth(&self, place: usize) -> Option<usize>
         ensures { result ≡ slice_get self.now.order.items place }
