@@ -89,6 +89,11 @@ fn whole_number(value: &[u8]) -> Option<i64> {
     digits.parse::<i64>().ok()
 }
 
+/// The whole number of 64 bits with which the text begins, where its first value is one.
+pub fn whole_at(text: &[u8]) -> Option<i64> {
+    whole_number(value_at(text))
+}
+
 /// Whether a value that is written so is a number that isn't whole.
 fn is_fraction(value: &[u8]) -> bool {
     is_number(value) && whole_number(value).is_none()

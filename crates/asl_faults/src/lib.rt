@@ -21,7 +21,7 @@ mod unread;
 
 pub use found::{Found, Words};
 pub use index::Index;
-pub use kinds::{Kinds, Misfit, sentence_of_kind};
+pub use kinds::{Kinds, Misfit, sentence_of_kind, whole_at};
 pub use paths::{Paths, values_within};
 pub use rule_faults::fault_of_rule;
 pub use shape_faults::faults_of_shape;

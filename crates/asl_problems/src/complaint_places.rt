@@ -135,10 +135,11 @@ impl<'s, 't, 'a> DefinitionPlaces<'_, 's, 't, 'a> {
             DefFault::BadErrorEquals => self.add_error_names(state, field, found),
             DefFault::EmptyList => self.add_empty_lists(state, field, found),
             DefFault::UnknownType => self.add_unknown_type(state, found),
-            DefFault::NextOrEnd
-            | DefFault::HeartbeatNotSmaller
-            | DefFault::TooLarge
-            | DefFault::OutOfMemory => add(self.index.field_or_name(state, field), found),
+            DefFault::NextOrEnd => self.add_next_or_end(state, field, found),
+            DefFault::HeartbeatNotSmaller => self.add_heartbeat(state, field, found),
+            DefFault::TooLarge | DefFault::OutOfMemory => {
+                add(self.index.field_or_name(state, field), found)
+            }
         }
     }
 
@@ -562,7 +563,7 @@ impl<'s, 't, 'a> DefinitionPlaces<'_, 's, 't, 'a> {
 }
 
 /// Adds a place of which no more is said than by its kind.
-fn add(spot: Spot, found: &mut Vec<Found>) -> Result<(), OutOfMemory> {
+pub(crate) fn add(spot: Spot, found: &mut Vec<Found>) -> Result<(), OutOfMemory> {
     found.push(Found::at(spot))?;
     Ok(())
 }

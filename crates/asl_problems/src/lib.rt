@@ -5,6 +5,7 @@
 //! [`add_warnings`] what is odd in one, [`add_repeats`] the names in a text that stand again in their object. [`diagnostics_of`] gives problems their places in the texts, and their messages.
 #![tactic(auto)]
 
+mod between_fields;
 mod complaint_places;
 mod complaints;
 mod declared_places;

@@ -125,7 +125,7 @@ impl<'a> Text<'_, '_, '_, 'a> {
     }
 
     /// What stands in a state's `Type`, where it is a text.
-    fn type_of(self, state: Member) -> Result<Option<String>, OutOfMemory> {
+    pub(crate) fn type_of(self, state: Member) -> Result<Option<String>, OutOfMemory> {
         match self.index.member(state.value, "Type") {
             Some(found) => text_at(
                 self.alloc,
