@@ -103,7 +103,7 @@ impl Standing<'_, '_> {
             (destination_view destination.entry) }
     {
         match destination {
-            Destination::Input(name) => self.checker.input_to_compare(name),
+            Destination::Input(target) => self.checker.input_to_compare(&target.name),
             Destination::Output => Some(self.output),
             Destination::End => self.end,
             Destination::Task => Some(self.takes),

@@ -5,6 +5,7 @@ ghost use Rattle.asl_model.specs.Edges as model;
 ghost use Rattle.asl_draft_laws.specs.Drafts as drafts;
 ghost use Rattle.asl_state_edges.specs.View.{destination_view};
 ghost use Rattle.asl_machine_table.specs.Table.{table_view};
+ghost use Rattle.asl_states.specs.Machine.{target_name};
 ghost use Rattle.asl_drafts.specs.Drafted.{target_view};
 
 use crate::draft::Target;
@@ -22,19 +23,19 @@ pub(crate) fn target_of(
         ≡ drafts.target_of (table_view machine.now) number (destination_view destination.entry) }
 {
     match destination {
-        Destination::Input(name) => input_named(machine, name),
+        Destination::Input(target) => input_of(machine, target),
         Destination::Output => Some(Target::Output(number)),
         Destination::End => scope_end(machine, number),
         Destination::Task => None,
     }
 }
 
-/// That of the input of the state of that name, if the machine has one.
-fn input_named(machine: &Machine, name: &str) -> Option<Target>
+/// That of the input of the state that the field names, if the machine has one of that name.
+fn input_of(machine: &Machine, target: &asl_states::Target) -> Option<Target>
     ensures { option_map target_view result
-        ≡ drafts.target_of (table_view machine.now) 0 (model.ToInput name.now) }
+        ≡ drafts.target_of (table_view machine.now) 0 (model.ToInput (target_name target.now)) }
 {
-    match machine.state_named(name) {
+    match machine.state_of(target) {
         Some(state) => Some(Target::Input(state)),
         None => None,
     }

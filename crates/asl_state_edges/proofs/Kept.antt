@@ -1,5 +1,5 @@
 -- The shapes of a state in a table that has grown.
-use Rattle.std.proofs.Common.{◌≡◌, ◌<◌, ◌≤◌, List, [], ◌∷◌, length, refl}
+use Rattle.std.proofs.Common.{◌≡◌, List, length, refl}
 use Rattle.asl_model.specs.Shape.{Shape}
 use Rattle.asl_numbered.specs.Expansion.{Keeps}
 use Rattle.asl_numbered.specs.Laws.{kept_item, kept_item_within, kept_numbers, kept_shape, kept_shapes, kept_within}

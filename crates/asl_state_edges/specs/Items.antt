@@ -2,11 +2,12 @@
 use Rattle.std.specs.Prelude.{ℕ, List, codes, option_map}
 use Rattle.asl_model.specs.Edges as model
 use Rattle.asl_model.specs.Finding.{array_parts, element_shape, item_flow}
-use Rattle.asl_model.specs.Machine.{Scope, ScopeOf, NoStates}
+use Rattle.asl_model.specs.Machine.{Scope}
 use Rattle.asl_model.specs.Path.{Segment}
 use Rattle.asl_model.specs.Shape.{Shape, Shapes}
 use Rattle.asl_model.specs.ShapeFlow.{found}
 use Rattle.asl_numbered.specs.Expansion.{shape_at}
+use Rattle.asl_states.specs.Machine.{started_at}
 use Rattle.asl_template.specs.View as templates
 use Rattle.asl_state_edges.specs.Entry.{entry_view}
 use Rattle.asl_state_edges.specs.Steps.{settings_of, kind_of, input_of}
@@ -15,7 +16,7 @@ use Rattle.asl_state_edges.specs.declared.walking.Walk.{Walk}
 
 -- the processor, without its states
 abbrev pub processor_of : Children → Scope
-processor_of children = ScopeOf children.processor.now NoStates
+processor_of children = started_at children.processor.now
 
 -- a child's input for the elements
 abbrev pub item_steps : List Shape → Children → Shapes × Shape → List model.Walked

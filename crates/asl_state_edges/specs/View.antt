@@ -9,6 +9,7 @@ use Rattle.asl_model.specs.Tree.{Tree}
 use Rattle.asl_shape_paths.specs.Doubts.{doubtful_view}
 use Rattle.asl_shape_paths.specs.declared.doubts.DoubtfulPath.{DoubtfulPath}
 use Rattle.asl_numbered.specs.Expansion.{shape_at}
+use Rattle.asl_states.specs.Machine.{target_name}
 use Rattle.asl_state_edges.specs.declared.faults.Broken.{Broken}
 use Rattle.asl_state_edges.specs.declared.faults.FindingFault.{FindingFault}
 use Rattle.asl_state_edges.specs.declared.faults.FindingFault.TheVariants as found
@@ -49,7 +50,7 @@ broken_view table b =
 
 -- where a shape flows to
 abbrev pub destination_view : Destination → model.Destination
-destination_view (to.Input n) = model.ToInput n.now
+destination_view (to.Input target) = model.ToInput (target_name target.now)
 destination_view to.Output = model.ToOutput
 destination_view to.End = model.ToEnd
 destination_view to.Task = model.ToTask

@@ -57,9 +57,9 @@ impl<'m> Walk<'_, 'm> {
         ensures keeps { Keeps shapes.old shapes.new }
     {
         match &catcher.result_path {
-            None => push_caught(steps, &catcher.next.name, self.entry.input),
+            None => push_caught(steps, &catcher.next, self.entry.input),
             Some(path) => match put_at(self.alloc, shapes, self.entry.input, path, error) {
-                Ok(placed) => push_caught(steps, &catcher.next.name, placed),
+                Ok(placed) => push_caught(steps, &catcher.next, placed),
                 Err(PutRefusal::MayNotFit(_)) => {
                     push_broken(steps, "Catch", FindingFault::ResultMayNotFit)
                 }

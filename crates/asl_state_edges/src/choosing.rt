@@ -73,7 +73,7 @@ impl<'m> Walk<'_, 'm> {
         ensures keeps { Keeps shapes.old shapes.new }
     {
         match let_through_at(self.alloc, shapes, &rule.test, effective)? {
-            Ok(shape) => self.walk_chosen(shapes, steps, "Choices", &rule.next.name, shape),
+            Ok(shape) => self.walk_chosen(shapes, steps, "Choices", &rule.next, shape),
             Err(path) => push_missing(steps, "Choices", path),
         }
     }
@@ -96,7 +96,7 @@ impl<'m> Walk<'_, 'm> {
         ensures keeps { Keeps shapes.old shapes.new }
     {
         match default {
-            Some(next) => self.walk_chosen(shapes, steps, "Default", &next.name, effective),
+            Some(next) => self.walk_chosen(shapes, steps, "Default", next, effective),
             None => {
                 let settled = settles_at(self.alloc, shapes, rules, effective)?;
                 push_unless(steps, settled, "Default", FindingFault::NoDefault)

@@ -10,15 +10,15 @@ ghost use Rattle.asl_numbered.specs.Expansion.{shape_at, Keeps};
 use crate::faults::{Broken, FindingFault};
 use crate::walking::Walk;
 use asl_numbered::Shapes;
-use asl_states::State;
+use asl_states::{State, Target};
 use asl_tree::OutOfMemory;
 use std::alloc::Global;
 
 /// Where a shape flows to.
 #[derive(Clone, Copy, Drop)]
 pub enum Destination<'m> {
-    /// The input of the state of that name.
-    Input(&'m str),
+    /// The input of that state.
+    Input(&'m Target),
     /// The state's own output.
     Output,
     /// The end of the state's scope.

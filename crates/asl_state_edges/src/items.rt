@@ -15,6 +15,7 @@ use asl_flow::{Elements, element_at, elements_of, item_input_at, outputs_at};
 use asl_numbered::Shapes;
 use asl_path::RefPath;
 use asl_shape_paths::find_at;
+use asl_states::Target;
 use asl_template::Template;
 use asl_tree::OutOfMemory;
 
@@ -22,7 +23,7 @@ use asl_tree::OutOfMemory;
 #[derive(Clone, Copy, Drop)]
 pub(crate) struct Children<'m> {
     pub(crate) selector: &'m Option<Template>,
-    pub(crate) processor: &'m str,
+    pub(crate) processor: &'m Target,
     pub(crate) effective: usize,
 }
 

@@ -3,9 +3,8 @@
 ghost use Rattle.std.specs.Prelude.{OnOk, option_map};
 ghost use Rattle.asl_state_edges.specs.View.{finding_fault_view};
 ghost use Rattle.asl_state_edges.specs.Walks.{caught_step, output_step, payload_step, Pushes, Tells, TellsDoubts, TellsMissing};
-ghost use Rattle.asl_states.specs.Machine.{branches_view, target_name};
+ghost use Rattle.asl_states.specs.Machine.{branches_view, started_at, target_name};
 ghost use Rattle.asl_model.specs.Edges as model;
-ghost use Rattle.asl_model.specs.Machine.{ScopeOf, NoStates};
 
 use crate::faults::{FindingFault, broken_at, broken_by, missing_at};
 use crate::found::{Destination, Edge, Step};
@@ -24,7 +23,7 @@ pub(crate) fn push_onward<'m>(
         (model.onward (option_map target_name next.now))) }
 {
     match next {
-        Some(next) => push_next(steps, "Next", &next.name, output),
+        Some(next) => push_next(steps, "Next", next, output),
         None => push_end(steps, "End", output),
     }
 }
@@ -33,11 +32,11 @@ pub(crate) fn push_onward<'m>(
 pub(crate) fn push_next<'m>(
     steps: &mut Vec<Step<'m>>,
     field: &'static str,
-    next: &'m str,
+    next: &'m Target,
     output: usize,
 ) -> Result<(), OutOfMemory>
     ensures { OnOk result (Pushes steps.old.items steps.new.items output
-        (model.to_next field.now next.now)) }
+        (model.to_next field.now (target_name next.now))) }
 {
     push_output(steps, output)?;
     steps.push(Step::Flows(Edge {
@@ -97,11 +96,11 @@ pub(crate) fn push_payload(steps: &mut Vec<Step>, payload: usize) -> Result<(), 
 /// What a catcher hands on flows into the input of the next state.
 pub(crate) fn push_caught<'m>(
     steps: &mut Vec<Step<'m>>,
-    next: &'m str,
+    next: &'m Target,
     caught: usize,
 ) -> Result<(), OutOfMemory>
     ensures { OnOk result (Pushes steps.old.items steps.new.items caught
-        (caught_step next.now)) }
+        (caught_step (target_name next.now))) }
 {
     steps.push(Step::Flows(Edge {
         flowing: caught,
@@ -116,11 +115,11 @@ pub(crate) fn push_caught<'m>(
 pub(crate) fn push_child<'m>(
     steps: &mut Vec<Step<'m>>,
     field: &'static str,
-    start: &'m str,
+    start: &'m Target,
     input: usize,
 ) -> Result<(), OutOfMemory>
     ensures { OnOk result (Pushes steps.old.items steps.new.items input
-        (model.to_child field.now (ScopeOf start.now NoStates))) }
+        (model.to_child field.now (started_at start.now))) }
 {
     steps.push(Step::Flows(Edge {
         flowing: input,
@@ -141,7 +140,7 @@ pub(crate) fn push_branches<'m>(
         (model.to_branches (branches_view branches.now))) }
 {
     for start in branches {
-        push_child(steps, "Branches", &start.name, input)?;
+        push_child(steps, "Branches", start, input)?;
     }
     Ok(())
 }

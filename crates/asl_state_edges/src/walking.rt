@@ -6,12 +6,13 @@ ghost use Rattle.asl_state_edges.specs.Steps as parts;
 ghost use Rattle.asl_state_edges.specs.Walks.{Adds};
 ghost use Rattle.asl_model.specs.Shape.{inhabited};
 ghost use Rattle.asl_numbered.specs.Expansion.{shape_at, Keeps};
+ghost use Rattle.asl_states.specs.Machine.{target_name};
 
 use crate::found::{Entry, Step};
 use crate::pushing::{push_doubts, push_end, push_next, push_onward};
 use asl_flow::{effective_at, output_at};
 use asl_numbered::Shapes;
-use asl_states::State;
+use asl_states::{State, Target};
 use asl_tree::OutOfMemory;
 use std::alloc::Global;
 
@@ -104,14 +105,15 @@ impl<'m> Walk<'_, 'm> {
         shapes: &mut Shapes,
         steps: &mut Vec<Step<'m>>,
         field: &'static str,
-        next: &'m str,
+        next: &'m Target,
         work: usize,
     ) -> Result<(), OutOfMemory>
         requires input { self.now.entry.input < length shapes.old }
         requires work { work < length shapes.old }
         ensures adds { OnOk result
             (Adds shapes.new steps.old.items steps.new.items
-            (parts.chosen_steps shapes.old self.now field.now next.now work)) }
+            (parts.chosen_steps shapes.old self.now field.now (target_name next.now)
+            work)) }
         ensures keeps { Keeps shapes.old shapes.new }
     {
         match output_at(self.alloc, shapes, self.state, self.entry.input, work)? {

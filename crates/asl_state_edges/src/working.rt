@@ -50,7 +50,7 @@ impl<'m> Walk<'_, 'm> {
             } => {
                 let children = Children {
                     selector: item_selector,
-                    processor: &processor.name,
+                    processor,
                     effective,
                 };
                 self.walk_map(shapes, steps, items_path, children)

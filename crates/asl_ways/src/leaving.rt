@@ -186,8 +186,8 @@ fn arrival_along(machine: &Machine, number: usize, passed: &Passed, edge: Edge) 
     ensures below { IfSome result (λ arrival. arrival.shape ≡ edge.entry.flowing) }
 {
     match edge.destination {
-        Destination::Input(name) => {
-            let state = machine.state_named(name)?;
+        Destination::Input(target) => {
+            let state = machine.state_of(target)?;
             Some(Arrival {
                 state,
                 shape: edge.flowing,

@@ -7,7 +7,7 @@ loop-start-init c = all_left _ _ _
 pub loop-start-preserved : goal.loop-start-preserved
 loop-start-preserved c =
     let l = c.loop-start in
-    branch_pushed _ _ _ c.args.input _ c.args.branches.now l.start-index c.start-item.result c.loop-start-test.true c.start-item.is l.invariant (rw c.deref.ensures at c.in_ok-push_child.ensures)
+    branch_pushed _ _ _ c.args.input _ c.args.branches.now l.start-index c.start-item.result c.loop-start-test.true c.start-item.is l.invariant c.in_ok-push_child.ensures
 
 pub returns : goal.returns
 returns c =

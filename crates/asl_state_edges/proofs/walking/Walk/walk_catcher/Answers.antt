@@ -13,7 +13,7 @@ returns-in-None-clause-adds c =
     let catcher = c.args.catcher.now in
     let a = c.args.shapes.now in
     let same = input_caught a walk catcher c.in-None.is in
-    on_ok_weaker _ (adds_pushed a _ _ walk.entry.input (caught_step (target_name catcher.next)) _ c.requires.input same) (rw c.deref.ensures at c.push_caught.ensures)
+    on_ok_weaker _ (adds_pushed a _ _ walk.entry.input (caught_step (target_name catcher.next)) _ c.requires.input same) c.push_caught.ensures
 
 pub returns-in-Ok-clause-adds : goal.returns-in-Ok-clause-adds
 returns-in-Ok-clause-adds c =
@@ -21,7 +21,7 @@ returns-in-Ok-clause-adds c =
     let catcher = c.args.catcher.now in
     let b = c.put_at.new.shapes in
     let same = placed_caught c.args.shapes.now walk catcher c.in-Some.path c.args.error (shape_at b c.in-Ok.placed) c.in-Some.is c.requires.error_output c.in-Ok.ensures.as_defined in
-    on_ok_weaker _ (adds_pushed b _ _ c.in-Ok.placed (caught_step (target_name catcher.next)) _ c.in-Ok.ensures.number.within same) (rw c.deref-in-Ok.ensures at c.push_caught-in-Ok.ensures)
+    on_ok_weaker _ (adds_pushed b _ _ c.in-Ok.placed (caught_step (target_name catcher.next)) _ c.in-Ok.ensures.number.within same) c.push_caught-in-Ok.ensures
 
 pub returns-in-Err-MayNotFit-clause-adds : goal.returns-in-Err-MayNotFit-clause-adds
 returns-in-Err-MayNotFit-clause-adds c =

@@ -6,7 +6,7 @@ use Rattle.asl_state_edges.proofs.walking.Walk.walk_default.Goals as goal
 pub returns-in-Some-clause-adds : goal.returns-in-Some-clause-adds
 returns-in-Some-clause-adds c =
     let same = default_chosen c.args.shapes.now c.args.self.now c.args.rules.now c.args.default.now c.args.effective c.in-Some.next c.in-Some.is in
-    on_ok_weaker _ (adds_same _ _ _ _ _ same) (rw c.deref.ensures at c.walk_chosen.ensures.adds)
+    on_ok_weaker _ (adds_same _ _ _ _ _ same) c.walk_chosen.ensures.adds
 
 pub returns-in_ok-settled-in-None-clause-adds : goal.returns-in_ok-settled-in-None-clause-adds
 returns-in_ok-settled-in-None-clause-adds c =

@@ -20,7 +20,7 @@ returns-in-Ok-clause-adds c =
     let found = c.in_ok-shape in
     let same = let_through a c.let_through_at.new.shapes walk rule c.in-Ok.shape found.ensures.keeps c.requires.input in
     let go_on = walk_rule (settings_of walk) (kind_of walk) (input_of a walk) (target_name rule.next) in
-    on_ok_weaker _ (λ adds. found_walked _ _ found.field-0 found.ensures.as_defined found.ensures.within _ _ _ go_on c.in-Ok.shape c.in-Ok.is (adds_same _ _ _ _ _ same adds)) (rw c.deref.ensures at c.walk_chosen.ensures.adds)
+    on_ok_weaker _ (λ adds. found_walked _ _ found.field-0 found.ensures.as_defined found.ensures.within _ _ _ go_on c.in-Ok.shape c.in-Ok.is (adds_same _ _ _ _ _ same adds)) c.walk_chosen.ensures.adds
 
 pub returns-in-Err-clause-adds : goal.returns-in-Err-clause-adds
 returns-in-Err-clause-adds c =

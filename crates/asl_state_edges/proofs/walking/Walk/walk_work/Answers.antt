@@ -49,4 +49,4 @@ returns-in-Map-clause-adds c =
     let walk = c.args.self.now in
     let table = c.args.shapes.now in
     let same = map_steps (settings_of walk) (kind_of walk) (entry_view table walk.entry) c.in-Map.items_path (option_map templates.view c.in-Map.item_selector) (started_at c.in-Map.processor) (shape_at table c.args.effective) (ap kind_view c.in-Map.is) in
-    on_ok_weaker _ (adds_same _ _ _ _ _ same) (rw c.deref-in-Map.ensures at c.walk_map.ensures.adds)
+    on_ok_weaker _ (adds_same _ _ _ _ _ same) c.walk_map.ensures.adds
