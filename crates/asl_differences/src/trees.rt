@@ -1,8 +1,10 @@
 //! Where two trees differ.
 
-ghost use Rattle.std.specs.Prelude.{◌≡◌, ◌↔◌, None, IfOk};
+ghost use Rattle.std.specs.Prelude.{◌≡◌, ◌≢◌, ◌↔◌, [], ◌∷◌, None, IfOk, IfSome, string_bytes};
 ghost use Rattle.std.specs.Option.{IsSome};
+ghost use Rattle.asl_model.specs.Tree.{Array, Object};
 ghost use Rattle.asl_tree.specs.View.{view, elements_view, entries_view};
+ghost use Rattle.asl_differences.specs.Places.{segment_of, path_of, told, IsDifference, TellsOf, IsAlone};
 
 use crate::paths::{Step, path_text};
 use crate::words::{expected_found, found_text};
@@ -23,7 +25,9 @@ pub struct Difference<'t> {
 
 impl<'t> Difference<'t> {
     /// Trees that differ themselves.
-    fn here(alloc: Global, expected: Option<&'t Tree>, found: Option<&'t Tree>) -> Difference<'t> {
+    fn here(alloc: Global, expected: Option<&'t Tree>, found: Option<&'t Tree>) -> Difference<'t>
+        ensures { TellsOf [] (told expected.entry) (told found.entry) result }
+    {
         Difference {
             way: Vec::new(alloc),
             expected,
@@ -32,7 +36,11 @@ impl<'t> Difference<'t> {
     }
 
     /// The same difference, seen from where that step leads in.
-    fn below(mut self, step: Step<'t>) -> Result<Difference<'t>, OutOfMemory> {
+    fn below(mut self, step: Step<'t>) -> Result<Difference<'t>, OutOfMemory>
+        ensures { IfOk result
+            (TellsOf (segment_of step.entry ∷ path_of self.entry.way.items)
+            (told self.entry.expected) (told self.entry.found)) }
+    {
         self.way.push(step)?;
         Ok(self)
     }
@@ -48,14 +56,18 @@ impl<'t> Difference<'t> {
 }
 
 /// The first place where the trees differ, in the order of their elements and fields; none exactly where they are
-/// equal. Refuses only where an allocation was refused.
+/// equal. The path of the place leads in the one tree to what is told as expected (to nothing where nothing is), in the
+/// other to what is told as found, and these differ. Refuses only where an allocation was refused.
 #[cycle(first_difference)]
 pub fn first_difference<'t>(
     alloc: Global,
     expected: &'t Tree,
     found: &'t Tree,
 ) -> Result<Option<Difference<'t>>, OutOfMemory>
-    ensures { IfOk result (λ difference. difference ≡ None ↔ view expected.now ≡ view found.now) }
+    ensures exactly { IfOk result
+        (λ difference. difference ≡ None ↔ view expected.now ≡ view found.now) }
+    ensures there { IfOk result (λ difference. IfSome difference
+        (IsDifference (view expected.now) (view found.now))) }
 {
     match (expected, found) {
         (Tree::List(expected), Tree::List(found)) => in_elements(alloc, expected, found),
@@ -77,8 +89,11 @@ fn in_elements<'t>(
     expected: &'t Vec<Tree>,
     found: &'t Vec<Tree>,
 ) -> Result<Option<Difference<'t>>, OutOfMemory>
-    ensures { IfOk result (λ difference. difference ≡ None
+    ensures exactly { IfOk result (λ difference. difference ≡ None
         ↔ elements_view expected.now.items ≡ elements_view found.now.items) }
+    ensures there { IfOk result (λ difference. IfSome difference
+        (IsDifference (Array (elements_view expected.now.items))
+        (Array (elements_view found.now.items)))) }
 {
     let mut others = found.iter();
     for (index, element) in expected.iter().enumerate() {
@@ -102,8 +117,11 @@ fn in_fields<'t>(
     expected: &'t BTreeMap<String, Tree>,
     found: &'t BTreeMap<String, Tree>,
 ) -> Result<Option<Difference<'t>>, OutOfMemory>
-    ensures { IfOk result (λ difference. difference ≡ None
+    ensures exactly { IfOk result (λ difference. difference ≡ None
         ↔ entries_view expected.now.entries ≡ entries_view found.now.entries) }
+    ensures there { IfOk result (λ difference. IfSome difference
+        (IsDifference (Object (entries_view expected.now.entries))
+        (Object (entries_view found.now.entries)))) }
 {
     let mut others = found.iter();
     for (name, field) in expected.iter() {
@@ -129,7 +147,11 @@ fn first_alone<'t>(
     expected: (&'t String, &'t Tree),
     found: (&'t String, &'t Tree),
 ) -> Result<Option<Difference<'t>>, OutOfMemory>
-    ensures { IfOk result IsSome }
+    requires { string_bytes expected.0.now ≢ string_bytes found.0.now }
+    ensures some { IfOk result IsSome }
+    ensures there { IfOk result (λ difference. IfSome difference
+        (IsAlone (string_bytes expected.entry.0.now) (string_bytes found.entry.0.now)
+        (view expected.entry.1.now) (view found.entry.1.now))) }
 {
     if expected.0 < found.0 {
         one_sided(alloc, Step::Name(expected.0), Some(expected.1), None)
@@ -145,7 +167,9 @@ fn one_sided<'t>(
     expected: Option<&'t Tree>,
     found: Option<&'t Tree>,
 ) -> Result<Option<Difference<'t>>, OutOfMemory>
-    ensures { IfOk result IsSome }
+    ensures some { IfOk result IsSome }
+    ensures there { IfOk result (λ difference. IfSome difference
+        (TellsOf (segment_of step.entry ∷ []) (told expected.entry) (told found.entry))) }
 {
     let difference = Difference::here(alloc, expected, found);
     Ok(Some(difference.below(step)?))
