@@ -479,8 +479,10 @@ def bench(program, forms):
         print("   size     bytes/B program/s  peak/MB  python/s  ratio  B per B")
         try:
             for (length, seconds), (longer, more) in itertools.pairwise(sizes_of(program, form, bare)):
-                exponent = math.log(more / seconds) / math.log(longer / length)
-                print(f"growth from {length} to {longer} bytes: exponent {exponent:.2f}", flush=True)
+                # What takes no longer than a bare start has no growth to tell.
+                if min(seconds, more) > 0:
+                    exponent = math.log(more / seconds) / math.log(longer / length)
+                    print(f"growth from {length} to {longer} bytes: exponent {exponent:.2f}", flush=True)
         except ValueError as why:
             print(why, flush=True)
             is_well = False
