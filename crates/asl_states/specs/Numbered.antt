@@ -12,11 +12,3 @@ pub record IsNumbered (names : List (List ℕ)) (target : Target) : Type 0 where
 -- so for all that a state's fields name
 abbrev pub AreNumbered : List (List ℕ) → State → Type 0
 AreNumbered names = EachTarget (IsNumbered names)
-
--- the state's name stands in the table, first at that number
-pub record IsFound (names : List (List ℕ)) (target : Target) : Type 0 where
-  pub at : position (bytes_eq (string_bytes target.name)) names ≡ Some target.number
-
--- so for all that a state's fields name
-abbrev pub AreFound : List (List ℕ) → State → Type 0
-AreFound names = EachTarget (IsFound names)
