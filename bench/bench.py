@@ -37,17 +37,19 @@ Each form is a kind of text in growing sizes; the names of all forms, or those t
 - run-retry: a Task that is retried so many times;
 - run-wide: an input of so many megabytes that goes through five states;
 - read-records, read-numbers, read-texts, read-unsorted: an input of so many megabytes, a list of records of six fields, of
-  numbers, of texts with escapes, of records whose fields don't stand in byte order, which is read and no step taken;
+  numbers, of texts with escapes, of records whose fields don't stand in byte order, which is read and no step taken. A record
+  takes sixteen bytes a byte: its fields stand in a leaf of the kit's ordered map, which has room for more than twice as many;
 - read-definition: a definition of so many megabytes, with templates, rules and retriers, which is read and no step taken.
   Its floor is the JSON value that is made of the text and dropped again: half of the instructions;
 - read-certificate: a certificate of so many megabytes, which is read and checked. Half of the instructions read the keywords
   of shapes as levels and put the shapes into the table, a sixth takes the tokens, and a twelfth makes the trees of the
   keywords other than properties.
 
-For each size: the processor time of the program (user and system, the fastest of three runs) less that of a bare start,
-its peak memory, the time that json.loads takes for what the program reads and prints (fastest of three), the ratio of
-the two, and the bytes of memory a byte of what is read and printed. Between two sizes: the exponent by which the time
-grows in what is read and printed. The exit status is 0 where every run ended as it must.
+For each size: the processor time of the program (user and system, the fastest of three runs) less that of a bare start, its
+peak memory (of which the least that is told is what this script takes when it starts it, some 16 MB), the time that
+json.loads takes for what the program reads and prints (fastest of three), the ratio of the two, and the bytes of memory a
+byte of what is read and printed. Between two sizes: the exponent by which the time grows in what is read and printed. The
+exit status is 0 where every run ended as it must.
 """
 
 import itertools
