@@ -1,5 +1,5 @@
 //! Outlines of JSON texts.
-ghost use Rattle.std.specs.Prelude.{◌≡◌, ◌<◌, ℕ, None, Err, MatchOption, IfOk, IfSome, IsSome, option_map, map, length, drop, slice_index, List, position, ◌+◌};
+ghost use Rattle.std.specs.Prelude.{◌≡◌, ◌<◌, ℕ, None, Err, MatchOption, IfOk, IfSome, IsSome, option_map, map, length, drop, slice_index, List};
 ghost use Rattle.json.specs.Token.{Token, begin_array, begin_object};
 ghost use Rattle.json.specs.Lex.{tokens};
 ghost use Rattle.json.specs.Json as spec;
@@ -8,10 +8,10 @@ ghost use Rattle.json.specs.Find.{InItems, InMembers, as_array, as_object, get, 
 ghost use Rattle.json.specs.Tape.{node_token, Linked};
 ghost use Rattle.json.specs.declared.tape.TheConstants.{MAX_LEN};
 ghost use Rattle.asl_places.specs.declared.outline.Spot.{Spot};
-ghost use Rattle.asl_places.specs.Found.{BeginsAt, FindsAt, IsNamed, TakesUp, TellsString, is_string};
+ghost use Rattle.asl_places.specs.Found.{BeginsAt, FindsAt, IsNamed};
 ghost use Rattle.asl_places.specs.Standing.{FindsMember, Opens};
 
-use crate::cursors::{Items, Members, behind};
+use crate::cursors::{Items, Members};
 use asl_tree::OutOfMemory;
 use json::{Error, Node, Reader, Scratch, Tape};
 use std::alloc::Global;
@@ -165,23 +165,6 @@ impl<'a> Outline<'a> {
         }
     }
 
-    /// The first string in the value at the spot, at any depth, that is `text`. A name is no string.
-    pub fn string_in(&self, value: Spot, text: &str) -> Option<Spot>
-        ensures { (j : Json) (taken : List Token) → TakesUp self.now.0 value j taken
-            → option_map (λ s. s.token) result
-            ≡ option_map (λ k. value.token + k) (position (is_string text.now) taken) }
-    {
-        let nodes = self.nodes();
-        let start = value.token;
-        if start >= nodes.len() {
-            return None;
-        }
-        let inside = first_string(&nodes[start..behind(nodes, start)], text)?;
-        Some(Spot {
-            token: start + inside,
-        })
-    }
-
     /// Where to tell of a state's field: at its value, or at the state's name where the state has no such field.
     pub fn field_or_name(&self, state: Member, field: &str) -> Spot
         ensures { (j : Json) → BeginsAt self.now.0 state.value j
@@ -189,20 +172,6 @@ impl<'a> Outline<'a> {
     {
         match self.member(state.value, field) {
             Some(found) => found.value,
-            None => state.name,
-        }
-    }
-
-    /// Where to tell of the string `text` in a state's field: at the first such string in the field's value, at the
-    /// value where no string in it is `text`, or at the state's name where the state has no such field.
-    pub fn string_or_field(&self, state: Member, field: &str, text: &str) -> Spot
-        ensures { (j : Json) → BeginsAt self.now.0 state.value j
-            → MatchOption (get field.now j) (result ≡ state.name)
-            (λ v. (at : Spot) × BeginsAt self.now.0 at v
-            × TellsString self.now.0 text.now at v result) }
-    {
-        match self.member(state.value, field) {
-            Some(found) => self.string_in(found.value, text).unwrap_or(found.value),
             None => state.name,
         }
     }
@@ -228,12 +197,4 @@ fn offsets_of(alloc: Global, text: &str, scratch: &mut Scratch) -> Result<Vec<us
         offset = reader.offset();
     }
     Ok(offsets)
-}
-
-/// The first of the nodes that is the string `text`.
-fn first_string(nodes: &[Node<'_>], text: &str) -> Option<usize>
-    ensures first { result ≡ position (λ n. is_string text.now (node_token n)) nodes.now }
-    ensures inside { IfSome result (λ k. k < length nodes.now) }
-{
-    nodes.iter().position(|node| matches!(node, Node::String(other) if *other == text))
 }

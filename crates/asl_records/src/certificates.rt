@@ -223,7 +223,7 @@ fn read_entries(
 /// table, and what is in it stays.
 ///
 /// Refuses where the entry breaks a rule, with a fault that stands there, and where an allocation was refused.
-pub fn read_state(
+fn read_state(
     reader: Reader<'_>,
     shapes: &mut Shapes,
     name: &str,

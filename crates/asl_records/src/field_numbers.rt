@@ -162,7 +162,7 @@ impl Reader<'_> {
     /// The number of the shape that a field's tree stands for. The shape comes into the table, and what is in it stays.
     ///
     /// Refuses where the tree breaks a rule, with a fault that stands there, and where an allocation was refused.
-    pub fn read_number(
+    pub(crate) fn read_number(
         &self,
         shapes: &mut Shapes,
         field: &str,

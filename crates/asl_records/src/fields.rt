@@ -23,13 +23,13 @@ use std::collections::BTreeMap;
 /// Reads the fields of a record, which has an empty name, or of its entry of that name. What is refused is told with
 /// the name.
 #[derive(Clone, Copy, Drop)]
-pub struct Reader<'n> {
-    pub alloc: Global,
-    pub name: &'n str,
+pub(crate) struct Reader<'n> {
+    pub(crate) alloc: Global,
+    pub(crate) name: &'n str,
     /// Whether lists of types may stand in the shapes of a certificate; in declared shapes they may.
-    pub several: bool,
+    pub(crate) several: bool,
     /// The numbers of the shapes that references mean, where a certificate lists shapes.
-    pub listed: Option<&'n [usize]>,
+    pub(crate) listed: Option<&'n [usize]>,
 }
 
 impl Reader<'_> {

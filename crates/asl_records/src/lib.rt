@@ -22,9 +22,8 @@ mod version;
 mod writing;
 mod writing_numbered;
 
-pub use certificates::{read_certificate, read_numbered, read_state, read_version};
+pub use certificates::{read_certificate, read_numbered, read_version};
 pub use declarations::read_declared;
-pub use fields::Reader;
 pub use listing::Listing;
 pub use numbering::{expand_certificate, number_certificate};
 pub use records::{

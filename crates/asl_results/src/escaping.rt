@@ -1,8 +1,8 @@
 //! Texts with the escapes that they need where they stand.
 ghost use Rattle.std.specs.Prelude.{◌≡◌, Some, option_map};
 ghost use Rattle.std.specs.Fmt.{WritesOnOk};
-ghost use Rattle.asl_results.specs.Junit.{allowed, escape_of, in_xml, is_forbidden};
-ghost use Rattle.asl_results.specs.Line.{in_line, long_escape, needs_escape, short_escape};
+ghost use Rattle.asl_results.specs.Junit.{allowed, escape_of, in_xml, is_forbidden, xml_char};
+ghost use Rattle.asl_results.specs.Line.{in_line, line_char, long_escape, needs_escape, short_escape};
 
 use std::fmt;
 
@@ -24,12 +24,19 @@ fn write_in_line<W: fmt::Write>(f: &mut fmt::Formatter<W>, text: &str) -> fmt::R
     ensures { WritesOnOk W.write_str_gives f.old result (in_line text.now) f.new }
 {
     for c in text.chars() {
-        match short_escape(c) {
-            Some(escape) => f.write_str(escape)?,
-            None => write_long(f, c)?,
-        }
+        write_character(f, c)?;
     }
     Ok(())
+}
+
+/// Writes a character as it stands in a line.
+fn write_character<W: fmt::Write>(f: &mut fmt::Formatter<W>, c: char) -> fmt::Result
+    ensures { WritesOnOk W.write_str_gives f.old result (line_char c) f.new }
+{
+    match short_escape(c) {
+        Some(escape) => f.write_str(escape),
+        None => write_long(f, c),
+    }
 }
 
 /// The short escape of a character, where it has one.
@@ -90,12 +97,19 @@ fn write_in_xml<W: fmt::Write>(f: &mut fmt::Formatter<W>, part: Part, text: &str
     ensures { WritesOnOk W.write_str_gives f.old result (in_xml part text.now) f.new }
 {
     for c in text.chars() {
-        match escape_of(part, c) {
-            Some(escape) => f.write_str(escape)?,
-            None => f.write_char(allowed(c))?,
-        }
+        write_escaped(f, part, c)?;
     }
     Ok(())
+}
+
+/// Writes a character with the escape that it needs there in XML.
+fn write_escaped<W: fmt::Write>(f: &mut fmt::Formatter<W>, part: Part, c: char) -> fmt::Result
+    ensures { WritesOnOk W.write_str_gives f.old result (xml_char part c) f.new }
+{
+    match escape_of(part, c) {
+        Some(escape) => f.write_str(escape),
+        None => f.write_char(allowed(c)),
+    }
 }
 
 /// The escape of a character, where it needs one.

@@ -34,7 +34,7 @@ pub fn copy(alloc: Global, shape: &Shape) -> Result<Shape, OutOfMemory>
 
 /// An equal copy of what a shape takes of lists. An error only where an allocation is refused.
 #[cycle(copy)]
-pub fn copy_arrays(
+fn copy_arrays(
     alloc: Global,
     arrays: Option<Arrays<'_>>,
 ) -> Result<Option<OwnedArrays>, OutOfMemory>
@@ -52,7 +52,7 @@ pub fn copy_arrays(
 
 /// An equal copy of what a shape takes of objects. An error only where an allocation is refused.
 #[cycle(copy)]
-pub fn copy_objects(
+fn copy_objects(
     alloc: Global,
     objects: Option<Objects<'_>>,
 ) -> Result<Option<OwnedObjects>, OutOfMemory>

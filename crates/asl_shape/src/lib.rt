@@ -22,7 +22,7 @@ mod shape;
 mod writing;
 
 use asl_tree::WantOfMemory;
-pub use copying::{copy, copy_arrays, copy_objects};
+pub use copying::copy;
 pub use inhabiting::{
     all_inhabited, inhabited, is_inhabited, needed_inhabited, some_array, some_object,
 };

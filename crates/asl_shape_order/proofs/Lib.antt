@@ -1,4 +1,1 @@
 pub mod Bounds
-pub mod ExampleTrees
-pub mod Joins
-pub mod OutsideTrees

@@ -8,6 +8,7 @@ mod comparing;
 mod equality;
 mod examples;
 mod joining;
+mod numbers;
 
 pub use comparing::sub;
 pub use equality::same;

@@ -1,4 +1,4 @@
--- What is read of a certificate's text entry by entry. No public clause cites this module.
+-- What is read of a certificate's text shape by shape. No public clause cites this module.
 use Rattle.std.specs.Prelude.{◌≡◌, ℕ, List, [], length, Bool, Option, Some, String}
 use Rattle.std.specs.Borrow.{Bor}
 use Rattle.std.specs.declared.alloc.Global.{Global}

@@ -8,9 +8,10 @@ ghost use Rattle.asl_records.specs.Numbered.{AreWithin, numbered_view};
 ghost use Rattle.asl_streams.specs.Fielded.{AreFields};
 
 use crate::fields::{Fields, next_fields};
+use crate::reader::Reader;
 use crate::unread::Unread;
 use asl_numbered::Shapes;
-use asl_records::{NumberedCertificate, Reader, read_version};
+use asl_records::{NumberedCertificate, read_version};
 use asl_tree::OutOfMemory;
 use json::{Reader as Tokens, Scratch, Token};
 use std::alloc::Global;
@@ -90,7 +91,6 @@ fn certificate_of(
     };
     let record = Reader {
         alloc,
-        name: "",
         several,
         listed: fields.listed.as_deref(),
     };

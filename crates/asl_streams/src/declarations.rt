@@ -6,10 +6,11 @@ ghost use Rattle.asl_model.specs.Records.{StandsForDeclared};
 ghost use Rattle.asl_records.specs.View.{declared_view};
 ghost use Rattle.asl_streams.specs.Declaring.{AreDeclarations, AreShapesOf, ReadsDeclaration, ReadsDeclarations, ReadsEntries, ReadsOwn, ReadsTask, ReadsTaskPart, ReadsTaskParts, ReadsTasks};
 
+use crate::reader::Reader;
 use crate::shapes::next_shape;
 use crate::unread::Unread;
 use asl_numbered::Shapes;
-use asl_records::{Declared, Reader, TaskShapes};
+use asl_records::{Declared, TaskShapes};
 use asl_shape::Shape;
 use asl_tree::OutOfMemory;
 use json::{Reader as Tokens, Scratch, Token};
@@ -235,7 +236,6 @@ fn next_own_shape(alloc: Global, tokens: &mut Tokens<'_>, levels: usize) -> Resu
     let mut shapes = Shapes::new(alloc);
     let reader = Reader {
         alloc,
-        name: "",
         several: true,
         listed: None,
     };

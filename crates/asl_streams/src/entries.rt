@@ -4,11 +4,12 @@ ghost use Rattle.asl_numbered.specs.Expansion.{Keeps};
 ghost use Rattle.asl_records.specs.Listed.{AreInTable};
 ghost use Rattle.asl_streams.specs.Streamed.{ReadsList, ReadsStates};
 
+use crate::reader::Reader;
 use crate::shapes::next_shape;
 use crate::states::next_state;
 use crate::unread::Unread;
 use asl_numbered::Shapes;
-use asl_records::{Reader, StateNumbers};
+use asl_records::StateNumbers;
 use json::Reader as Tokens;
 use std::alloc::Global;
 use std::collections::BTreeMap;
@@ -57,7 +58,6 @@ pub(crate) fn next_listed(
     'listed: while !tokens.take_end_array() {
         let record = Reader {
             alloc,
-            name: "",
             several,
             listed: Some(&numbers),
         };

@@ -7,9 +7,10 @@ ghost use Rattle.asl_streams.specs.Fielded.{ReadsField, ReadsFields};
 
 use crate::entries::{next_listed, next_states};
 use crate::outputs::{Output, next_output};
+use crate::reader::Reader;
 use crate::unread::{Unread, no_tree};
 use asl_numbered::Shapes;
-use asl_records::{Reader, StateNumbers};
+use asl_records::StateNumbers;
 use asl_tree::{Tree, next_tree};
 use json::{Reader as Tokens, Token};
 use std::alloc::Global;
@@ -78,7 +79,6 @@ impl Fields {
     {
         Reader {
             alloc,
-            name: "",
             several,
             listed: self.listed.as_deref(),
         }

@@ -7,6 +7,7 @@ mod declarations;
 mod entries;
 mod fields;
 mod outputs;
+mod reader;
 mod shapes;
 mod spellings;
 mod states;

@@ -7,11 +7,11 @@ ghost use Rattle.asl_numbered.specs.References.{shapes_given};
 ghost use Rattle.asl_records.specs.Listed.{AreInTable};
 ghost use Rattle.asl_streams.specs.Shaped.{IsOutputOf, ReadsOutput};
 
+use crate::reader::Reader;
 use crate::shapes::{next_shape, next_spelling};
 use crate::spellings::read_tree;
 use crate::unread::Unread;
 use asl_numbered::Shapes;
-use asl_records::Reader;
 use asl_tree::Tree;
 use json::{Reader as Tokens, Token};
 

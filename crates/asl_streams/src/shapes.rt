@@ -6,10 +6,10 @@ ghost use Rattle.asl_numbered.specs.References.{shapes_given};
 ghost use Rattle.asl_records.specs.Listed.{AreInTable};
 ghost use Rattle.asl_streams.specs.Shaped.{ReadsElements, ReadsMentions, ReadsProperties, ReadsShape, ReadsShapes, ReadsSpelling};
 
+use crate::reader::Reader;
 use crate::spellings::{Spelling, read_tree};
 use crate::unread::{Unread, no_tree};
 use asl_numbered::{NodeField, Shapes};
-use asl_records::Reader;
 use asl_tree::{Tree, next_tree};
 use json::{Reader as Tokens, Token};
 use std::collections::BTreeMap;

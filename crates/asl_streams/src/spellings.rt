@@ -11,9 +11,9 @@ ghost use Rattle.asl_tree.proofs.Views.{put};
 ghost use Rattle.asl_tree.specs.View.{view};
 
 use crate::outputs::Output;
+use crate::reader::Reader;
 use crate::unread::{Unread, no_number, no_shape};
 use asl_numbered::{KindNumbers, NodeField, Shapes};
-use asl_records::Reader;
 use asl_shape::{Level, read_level};
 use asl_tree::{OutOfMemory, Tree};
 use std::alloc::Global;

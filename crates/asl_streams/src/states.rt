@@ -5,10 +5,11 @@ ghost use Rattle.asl_numbered.specs.References.{shapes_given};
 ghost use Rattle.asl_records.specs.Listed.{AreInTable};
 ghost use Rattle.asl_streams.specs.Entered.{AreTheirs, ReadsPart, ReadsParts, ReadsState};
 
+use crate::reader::Reader;
 use crate::shapes::{next_shape, next_shapes};
 use crate::unread::Unread;
 use asl_numbered::Shapes;
-use asl_records::{Reader, StateNumbers};
+use asl_records::StateNumbers;
 use json::{Reader as Tokens, Token};
 use std::alloc::Global;
 

@@ -1,4 +1,4 @@
-//! Why a text isn't read entry by entry.
+//! Why a text isn't read shape by shape.
 
 ghost use Rattle.std.specs.Prelude.{◌≡◌};
 
@@ -6,7 +6,7 @@ use asl_numbered::NumberedRefusal;
 use asl_shape::ShapeRefusal;
 use asl_tree::{TreeRefusal, WantOfMemory};
 
-/// Why a text isn't read entry by entry.
+/// Why a text isn't read shape by shape.
 #[derive(Drop)]
 pub(crate) enum Unread {
     /// It is no certificate, or none whose fields come in an order in which it can be read so.
