@@ -15,6 +15,7 @@ use asl_check::{Finding, Located, find_all};
 use asl_machine::Machine;
 use asl_records::{Declared, NumberedCertificate};
 use asl_tree::OutOfMemory;
+use asl_warnings::{Stop, behind_stops};
 use std::alloc::Global;
 
 /// What is known of a machine under declared shapes by a certificate: each rule that it breaks, and how data goes through the
@@ -121,6 +122,9 @@ fn text_of_state(
     mut facts: Facts,
     state: usize,
 ) -> Result<String, OutOfMemory> {
+    let stops = stops_of(alloc, &facts.findings)?;
+    let behind = behind_stops(alloc, machine, &mut facts.certificate, &stops)?;
+    let is_behind = behind.get(state).copied().unwrap_or(false);
     let explainer = Explainer {
         alloc,
         machine,
@@ -129,7 +133,18 @@ fn text_of_state(
         flows: &facts.flows,
     };
     let shapes = &mut facts.certificate.shapes;
-    explainer.about_state(shapes, &facts.findings, state)
+    explainer.about_state(shapes, &facts.findings, state, is_behind)
+}
+
+/// Where the findings stop data.
+fn stops_of(alloc: Global, findings: &[Located]) -> Result<Vec<Stop<'_>>, OutOfMemory> {
+    let mut stops = Vec::new(alloc);
+    for Located { finding, .. } in findings {
+        if let Some(stop) = Stop::of(&finding.state, &finding.field, finding.fault) {
+            stops.push(stop)?;
+        }
+    }
+    Ok(stops)
 }
 
 /// Tells a finding of which nothing else is known, with its example and what generally helps. Refuses only where an

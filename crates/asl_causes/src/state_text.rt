@@ -14,20 +14,33 @@ use std::alloc::Global;
 /// How many arrivals at a state are told.
 const MOST_ARRIVALS: usize = 20;
 
+/// What is told in place of origins where a rule is broken in front.
+const UNKNOWN: &str =
+    "where a rule is broken in front: what comes here isn't known until that is mended";
+
+/// What is told behind origins where a rule is broken in front.
+const MORE: &str = "and perhaps more, from where a rule is broken in front";
+
 impl Explainer<'_> {
-    /// What comes to the state of that number, its shapes, and its findings.
+    /// What comes to the state of that number, its shapes, and its findings; `is_behind` says whether data may come to it behind
+    /// a rule that is broken, of which nothing is known here.
     pub(crate) fn about_state(
         &self,
         shapes: &mut Shapes,
         findings: &[Located],
         number: usize,
+        is_behind: bool,
     ) -> Result<String, OutOfMemory> {
         let (Some(name), Some(state)) = (self.machine.name(number), self.machine.state(number))
         else {
             return self.state_text(number);
         };
         let mut text = self.head_line(number, state)?;
-        self.push_known(shapes, &mut text, findings, number, name)?;
+        self.push_arrivals(shapes, &mut text, number, is_behind)?;
+        if !(is_behind && self.flows.arrivals_at(number).is_empty()) {
+            self.push_known(shapes, &mut text, number, name)?;
+        }
+        self.push_findings(&mut text, findings, name)?;
         Ok(text)
     }
 
@@ -59,32 +72,33 @@ impl Explainer<'_> {
         }
     }
 
-    /// Puts down what comes to the state of that name, its shapes, and its findings.
+    /// Puts down the shapes of the state of that name.
     fn push_known(
         &self,
         shapes: &mut Shapes,
         text: &mut String,
-        findings: &[Located],
         number: usize,
         name: &str,
     ) -> Result<(), OutOfMemory> {
-        self.push_arrivals(shapes, text, number)?;
-        if let Some(entry) = self.states.get(name) {
-            self.push_shapes(shapes, text, number, entry)?;
+        match self.states.get(name) {
+            Some(entry) => self.push_shapes(shapes, text, number, entry),
+            None => Ok(()),
         }
-        self.push_findings(text, findings, name)
     }
 
-    /// Puts down from where data comes to the state, each with its shape.
+    /// Puts down from where data comes to the state, each with its shape, and that more may come where a rule is broken in
+    /// front.
     fn push_arrivals(
         &self,
         shapes: &Shapes,
         text: &mut String,
         number: usize,
+        is_behind: bool,
     ) -> Result<(), OutOfMemory> {
         let arrivals = self.flows.arrivals_at(number);
         if arrivals.is_empty() {
-            return push_row(text, "comes from", "nowhere");
+            let origin = if is_behind { UNKNOWN } else { "nowhere" };
+            return push_row(text, "comes from", origin);
         }
         for (place, arrival) in arrivals.iter().take(MOST_ARRIVALS).enumerate() {
             if let Some(arrival) = self.flows.arrivals.get(*arrival) {
@@ -92,7 +106,11 @@ impl Explainer<'_> {
                 self.push_arrival(shapes, text, label, arrival)?;
             }
         }
-        self.push_untold(text, arrivals.len().saturating_sub(MOST_ARRIVALS))
+        self.push_untold(text, arrivals.len().saturating_sub(MOST_ARRIVALS))?;
+        if is_behind {
+            return push_row(text, "", MORE);
+        }
+        Ok(())
     }
 
     /// Puts down an arrival with its shape.

@@ -32,7 +32,9 @@ pub use records::rule_of_record;
 pub use rules::Rule;
 pub use sarif::sarif_text;
 pub use text::text_lines;
-pub use warnings::{Warning, rule_of_repeated_name, rule_of_warning};
+pub use warnings::{
+    Warning, rule_of_path_as_text, rule_of_repeated_name, rule_of_unknown_error, rule_of_warning,
+};
 
 /// How much a diagnostic weighs.
 #[derive(Clone, Copy, Debug, PartialEq, Eq)]

@@ -84,6 +84,40 @@ const REPEATED_NAME: Rule = Rule {
     help: "Remove one of the two, or give it a name of its own.",
 };
 
+const PATH_AS_TEXT: Rule = Rule {
+    id: "PathAsText",
+    severity: Severity::Warning,
+    short: "A text that reads as a path or a call stands for itself.",
+    full: "In a template a text is a path or a call only as the value of a field whose name ends in `.$`. This one stands \
+        elsewhere, so it is handed on letter by letter.",
+    help: "Let the name of the field end in `.$`. For a list of values write a call, as `\"names.$\": \"States.Array($.first, \
+        $.last)\"`.",
+};
+
+const UNKNOWN_ERROR: Rule = Rule {
+    id: "UnknownError",
+    severity: Severity::Warning,
+    short: "No error has this name.",
+    full: "The States Language keeps the names that begin with `States.` for its own errors, and this is none of them. \
+        Upper and lower case count.",
+    help: "Correct the name, as to `States.ALL` or `States.Timeout`, or give an error of your own a name that begins \
+        otherwise.",
+};
+
+/// The rule of a text that reads as a path or a call, and stands for itself.
+pub fn rule_of_path_as_text() -> &'static Rule
+    ensures { result.now.id.now ≡ codes "PathAsText" }
+{
+    &PATH_AS_TEXT
+}
+
+/// The rule of a name of an error that the language would have, and has not.
+pub fn rule_of_unknown_error() -> &'static Rule
+    ensures { result.now.id.now ≡ codes "UnknownError" }
+{
+    &UNKNOWN_ERROR
+}
+
 /// The rule of a name that stands again in its object.
 pub fn rule_of_repeated_name() -> &'static Rule
     ensures { result.now.id.now ≡ codes "RepeatedName" }

@@ -11,7 +11,7 @@ ghost use Rattle.asl_problems.specs.Told.{errors_of, told_by};
 use crate::inferring::judge;
 use crate::reading::{Declaration, Definition, read_declaration, read_definition};
 use asl_machine::Machine;
-use asl_problems::{Problem, Which, add_repeats, add_warnings};
+use asl_problems::{Problem, Which, add_misspelt, add_repeats, add_warnings};
 use asl_records::{Declared, NumberedCertificate};
 use asl_tree::OutOfMemory;
 use std::alloc::Global;
@@ -51,12 +51,13 @@ pub(crate) fn problems_of_texts(
 {
     let found = find(alloc, definition, declared, max_rounds)?;
     let problems = with_warnings(alloc, found)?;
-    let all = with_repeats(alloc, problems, definition, declared)?;
+    let all = with_slips(alloc, problems, definition, declared)?;
     Ok(all)
 }
 
-/// The problems, and behind them the names that stand again in their object.
-fn with_repeats(
+/// The problems, and behind them the names that stand again in their object, and the texts of the definition that are hardly
+/// meant as they stand.
+fn with_slips(
     alloc: Global,
     problems: Vec<Problem>,
     definition: &[u8],
@@ -66,6 +67,7 @@ fn with_repeats(
 {
     let mut all = problems;
     add_repeats(alloc, &mut all, Which::Definition, definition)?;
+    add_misspelt(alloc, &mut all, definition)?;
     if let Some(declared) = declared {
         add_repeats(alloc, &mut all, Which::Declared, declared)?;
     }

@@ -47,12 +47,9 @@ fn message_of(
             about_missing(alloc, &path.text, text_from(text, offset))
         }
         Kind::Odd { sentence, .. } => Ok(sentence.clone()?),
-        Kind::Repeated { .. } => about_string(
-            alloc,
-            problem.rule,
-            text_from(text, offset),
-            "stands again further on in this object, where alone it counts",
-        ),
+        Kind::Slip { said, .. } => {
+            about_string(alloc, problem.rule, text_from(text, offset), said)
+        }
         Kind::NotWhole | Kind::NotSettled | Kind::Record(_) | Kind::Finding(_, _) => {
             general(alloc, problem.rule)
         }
@@ -91,7 +88,7 @@ fn about_complaint(
 ) -> Result<String, OutOfMemory> {
     let field = field_of(problem);
     match fault {
-        DefFault::MissingField => about_absence(alloc, field),
+        DefFault::MissingField => about_absence_in_definition(alloc, field),
         DefFault::UnknownField => about_unknown(alloc, field),
         DefFault::LeftOut => about_left_out(alloc, field),
         DefFault::NoSuchState => about_string(
@@ -126,6 +123,30 @@ fn about_wrong_kind(alloc: Global, rule: &Rule, field: &str) -> Result<String, O
 /// About a field that is required and absent.
 fn about_absence(alloc: Global, field: &str) -> Result<String, OutOfMemory> {
     Ok(format!(in alloc; "The field `{field}` is required, and it is absent")?)
+}
+
+/// About a field that an object of a definition lacks. Of a field that one alone of several has to be, or that a retrier or a
+/// catcher has to have, that is said.
+fn about_absence_in_definition(alloc: Global, field: &str) -> Result<String, OutOfMemory> {
+    match field {
+        "Seconds" => sentence(
+            alloc,
+            "One of the fields `Seconds`, `SecondsPath`, `Timestamp` and `TimestampPath` is required, and none is there",
+        ),
+        "ItemProcessor" => sentence(
+            alloc,
+            "One of the fields `ItemProcessor` and `Iterator` is required, and none is there",
+        ),
+        "Next" => sentence(
+            alloc,
+            "The field `Next` of a catcher is required, and it is absent",
+        ),
+        "ErrorEquals" => sentence(
+            alloc,
+            "The field `ErrorEquals` of a retrier or a catcher is required, and it is absent",
+        ),
+        _ => about_absence(alloc, field),
+    }
 }
 
 /// About a field that an object may not have.

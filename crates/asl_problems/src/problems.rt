@@ -41,10 +41,11 @@ pub(crate) enum Kind {
         index: Option<usize>,
         sentence: String,
     },
-    /// The name at that byte stands again further on in its object.
-    Repeated {
+    /// The string at that byte is hardly meant; behind it is said why.
+    Slip {
         which: Which,
         byte: usize,
+        said: &'static str,
     },
 }
 
@@ -77,7 +78,7 @@ impl Problem {
     /// The text in which it stands.
     pub(crate) fn which(&self) -> Which {
         match &self.kind {
-            Kind::NotJson(which) | Kind::Repeated { which, .. } => *which,
+            Kind::NotJson(which) | Kind::Slip { which, .. } => *which,
             Kind::NotWhole | Kind::Record(_) | Kind::Finding(FindingFault::TaskUnknown, _) => {
                 Which::Declared
             }

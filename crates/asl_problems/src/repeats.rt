@@ -1,11 +1,11 @@
 //! Names that stand again in their object.
-ghost use Rattle.std.specs.Prelude.{◌≡◌, OnOk, IfOk};
-ghost use Rattle.asl_diagnostics.specs.declared.Severity.{Severity};
+ghost use Rattle.std.specs.Prelude.{◌≡◌, OnOk};
 ghost use Rattle.asl_problems.specs.Told.{errors_of};
 
-use crate::problems::{Kind, Problem, Which};
+use crate::problems::{Problem, Which};
+use crate::slips::{Slip, add_each};
 use crate::sources::Outlined;
-use asl_diagnostics::{Severity, rule_of_repeated_name};
+use asl_diagnostics::rule_of_repeated_name;
 use asl_faults::values_within;
 use asl_places::{Outline, Spot, members_by_name};
 use asl_tree::OutOfMemory;
@@ -24,22 +24,23 @@ pub fn add_repeats(
 {
     let mut scratch = Scratch::new(alloc);
     let outlined = Outlined::read(alloc, text, &mut scratch)?;
-    let names = repeated_names(alloc, &outlined, text.len())?;
-    add_each(problems, which, &names)
+    let names = repeated_names(alloc, which, &outlined, text.len())?;
+    add_each(alloc, problems, &names)
 }
 
-/// The bytes at which names stand that stand again further on in their object.
-fn repeated_names(
+/// The names that stand again further on in their object.
+fn repeated_names<'a>(
     alloc: Global,
+    which: Which,
     outlined: &Outlined<'_>,
     bytes: usize,
-) -> Result<Vec<usize>, OutOfMemory> {
+) -> Result<Vec<Slip<'a>>, OutOfMemory> {
     let mut names = Vec::new(alloc);
     let Outlined::Json(outline) = outlined else {
         return Ok(names);
     };
     for object in &values_within(alloc, outline, bytes, outline.root())? {
-        push_repeated(alloc, outline, *object, &mut names)?;
+        push_repeated(alloc, which, outline, *object, &mut names)?;
     }
     Ok(names)
 }
@@ -47,9 +48,10 @@ fn repeated_names(
 /// Puts those of one object behind the others.
 fn push_repeated(
     alloc: Global,
+    which: Which,
     outline: &Outline<'_>,
     object: Spot,
-    names: &mut Vec<usize>,
+    names: &mut Vec<Slip<'_>>,
 ) -> Result<(), OutOfMemory> {
     let Some(mut members) = outline.members(object) else {
         return Ok(());
@@ -60,33 +62,20 @@ fn push_repeated(
             .get(name)
             .is_none_or(|it| it.name.token == member.name.token);
         if !counts {
-            names.push(outline.offset(member.name))?;
+            names.push(repeated(which, outline.offset(member.name)))?;
         }
     }
     Ok(())
 }
 
-/// Adds a problem for each of the names.
-fn add_each(problems: &mut Vec<Problem>, which: Which, names: &[usize]) -> Result<(), OutOfMemory>
-    ensures { OnOk result (errors_of problems.new.items ≡ errors_of problems.old.items) }
-{
-    for name in names {
-        let problem = repeated(which, *name);
-        problems.push(problem)?;
-    }
-    Ok(())
-}
-
 /// The name at that byte of the text stands again.
-fn repeated(which: Which, byte: usize) -> Problem
-    ensures { result.severity ≡ Severity.Warning }
-{
-    Problem {
-        kind: Kind::Repeated { which, byte },
-        severity: Severity::Warning,
+fn repeated<'a>(which: Which, byte: usize) -> Slip<'a> {
+    Slip {
+        which,
+        byte,
         rule: rule_of_repeated_name(),
+        said: "stands again further on in this object, where alone it counts",
         state: None,
         field: None,
-        example: None,
     }
 }

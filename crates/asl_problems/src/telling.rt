@@ -232,7 +232,7 @@ fn find_in_definition(
 ) -> Result<At, OutOfMemory> {
     match (&problem.kind, definition.definition(alloc)) {
         (Kind::NotJson(_), _) => Ok(At::byte(break_of(alloc, definition.file.text)?.byte)),
-        (Kind::Repeated { byte, .. }, _) => Ok(At::byte(*byte)),
+        (Kind::Slip { byte, .. }, _) => Ok(At::byte(*byte)),
         (Kind::Complaint(fault), Some(places)) => {
             let name = name_of_places(alloc, problem)?;
             if !groups.has(&name) {
@@ -257,7 +257,7 @@ fn find_in_declared(
     let text = declared.file.text;
     match (&problem.kind, &declared.index) {
         (Kind::NotJson(_), _) => Ok(At::byte(break_of(alloc, text)?.byte)),
-        (Kind::Repeated { byte, .. }, _) => Ok(At::byte(*byte)),
+        (Kind::Slip { byte, .. }, _) => Ok(At::byte(*byte)),
         (Kind::NotWhole, _) => Ok(At::byte(first_fraction(alloc, text)?)),
         (Kind::Record(_), Some(index)) => {
             let name = name_of_places(alloc, problem)?;

@@ -14,7 +14,7 @@ use asl_tree::OutOfMemory;
 use std::alloc::Global;
 
 /// A state at which data may stop on its way, and the field at fault: a certificate may lack what goes on from there.
-#[derive(Clone, Copy, Debug, Drop)]
+#[derive(Clone, Copy, Debug, PartialEq, Eq, Drop)]
 pub struct Stop<'n> {
     pub state: &'n str,
     pub field: &'n str,
@@ -77,8 +77,13 @@ pub(crate) fn mark_behind(
     stops: &[Stop<'_>],
 ) -> Result<Marks, OutOfMemory> {
     let mut behind = Marks::new(alloc, machine.states())?;
+    let mut last = None;
     for stop in stops {
-        mark_stop(alloc, machine, certificate, &mut behind, *stop)?;
+        // The findings of one field stand beside each other, and what it hands on is looked at once.
+        if last != Some(*stop) {
+            mark_stop(alloc, machine, certificate, &mut behind, *stop)?;
+        }
+        last = Some(*stop);
     }
     for place in 0..machine.states() {
         let Some(number) = behind.nth(place) else {
