@@ -163,7 +163,7 @@ impl<'a> Around<'_, '_, '_, 'a> {
         if !reads_as_path(self.definition.alloc, &text)? {
             return Ok(());
         }
-        let said = "stands for itself here, as the name of its field doesn't end in `.$`";
+        let said = "stands for itself here: it isn't the value of a field whose name ends in `.$`";
         slips.push(self.slip(field, value, rule_of_path_as_text(), said))?;
         Ok(())
     }
@@ -200,7 +200,7 @@ impl<'a> Around<'_, '_, '_, 'a> {
         match self.text_of(name)? {
             Some(text) if is_unknown(&text) => {
                 let said =
-                    "is no name of an error in the States Language, which has all that begin with `States.`";
+                    "is no error of the States Language, which keeps the names that begin with `States.` for itself";
                 slips.push(self.slip(field, name, rule_of_unknown_error(), said))?;
             }
             _ => {}
