@@ -7,8 +7,9 @@ use crate::problems::{Problem, Which};
 use crate::scopes::{Inner, Text};
 use crate::slips::{Slip, add_each};
 use crate::sources::Outlined;
+use crate::telling::index_of;
 use asl_diagnostics::{Rule, rule_of_path_as_text, rule_of_unknown_error};
-use asl_faults::{Index, SUFFIX, refusal_of, text_at, text_from, values_within};
+use asl_faults::{SUFFIX, refusal_of, text_at, text_from, values_within};
 use asl_places::{Member, Spot, members_by_name};
 use asl_template::SpellingRefusal;
 use asl_tree::OutOfMemory;
@@ -61,18 +62,24 @@ pub fn add_misspelt(
     ensures { OnOk result (errors_of problems.new.items ≡ errors_of problems.old.items) }
 {
     let mut scratch = Scratch::new(alloc);
-    match Outlined::read(alloc, definition, &mut scratch)? {
-        Outlined::Json(outline) => {
-            let index = Index::read(alloc, &outline, definition.len())?;
-            let text = Text {
-                alloc,
-                text: definition,
-                index: &index,
-            };
-            let slips = slips_in(text)?;
-            add_each(alloc, problems, &slips)
-        }
-        Outlined::None => Ok(()),
+    let outlined = Outlined::read(alloc, definition, &mut scratch)?;
+    let slips = slips_of(alloc, &outlined, definition)?;
+    add_each(alloc, problems, &slips)
+}
+
+/// The slips in an outlined text.
+fn slips_of<'a>(
+    alloc: Global,
+    outlined: &Outlined<'a>,
+    text: &[u8],
+) -> Result<Vec<Slip<'a>>, OutOfMemory> {
+    match index_of(alloc, outlined, text)? {
+        Some(index) => slips_in(Text {
+            alloc,
+            text,
+            index: &index,
+        }),
+        None => Ok(Vec::new(alloc)),
     }
 }
 

@@ -133,7 +133,7 @@ fn states_of<'a>(
 }
 
 /// The index of an outlined text.
-fn index_of<'s, 'a>(
+pub(crate) fn index_of<'s, 'a>(
     alloc: Global,
     outlined: &'s Outlined<'a>,
     text: &[u8],
