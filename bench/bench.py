@@ -46,12 +46,13 @@ Each form is a kind of text in growing sizes; the names of all forms, or those t
   keywords other than properties.
 
 For each size: the processor time of the program (user and system, the fastest of three runs) less that of a bare start, its
-peak memory (of which the least that is told is what this script takes when it starts it, some 16 MB), the time that
-json.loads takes for what the program reads and prints (fastest of three), the ratio of the two, and the bytes of memory a
-byte of what is read and printed. Between two sizes: the exponent by which the time grows in what is read and printed. The
-exit status is 0 where every run ended as it must.
+peak memory (its own, in one more run, which the system stops at its end), the time that json.loads takes for what the
+program reads and prints (fastest of three), the ratio of the two, and the bytes of memory a byte of what is read and
+printed. Between two sizes: the exponent by which the time grows in what is read and printed. The exit status is 0 where
+every run ended as it must.
 """
 
+import ctypes
 import itertools
 import json
 import math
@@ -70,6 +71,12 @@ LIMIT = 16777216
 # json.loads recurses: what a growing loop prints nests thousands of levels.
 DEPTH = 100000
 STACK = 1 << 29
+# What is asked of the system's ptrace, the option that a process stops at its end, and how such a stop is told.
+TRACE_ME, GO_ON, SET_OPTIONS = 0, 7, 0x4200
+STOP_AT_EXIT, EXITS = 0x40, 6
+PTRACE = ctypes.CDLL(None, use_errno=True).ptrace
+PTRACE.argtypes = [ctypes.c_long, ctypes.c_long, ctypes.c_void_p, ctypes.c_void_p]
+PTRACE.restype = ctypes.c_long
 
 
 def names(count):
@@ -426,36 +433,64 @@ def loads(folder):
 def in_child(*words):
     """Runs this script with the words, and returns what it prints.
 
-    A process's peak memory counts what its parent held when it was started, so the large texts are made and read by
-    children, and this process stays small.
+    The large texts are made and read by children, so that this process stays small, and starts others quickly.
     """
     command = [sys.executable, __file__, *map(str, words)]
     return subprocess.run(command, stdout=subprocess.PIPE, check=True, text=True).stdout
 
 
 def run(program, words, status, folder):
-    """Runs the program once; returns its processor time in seconds and its peak memory in bytes."""
+    """Runs the program once; returns its processor time in seconds."""
     with open(os.path.join(folder, "asked"), "rb") as asked, open(os.path.join(folder, "said"), "wb") as said:
         child = subprocess.Popen([program, *words], cwd=folder, stdin=asked, stdout=said, stderr=subprocess.DEVNULL)
         _, ended, used = os.wait4(child.pid, 0)
     child.returncode = os.waitstatus_to_exitcode(ended)
     if child.returncode != status:
         raise ValueError(f"{program} {' '.join(words)} ended with {child.returncode}, not with {status}")
-    return used.ru_utime + used.ru_stime, used.ru_maxrss * 1024
+    return used.ru_utime + used.ru_stime
+
+
+def ptrace(request, process, data=0):
+    """Asks something of the system about a process that is traced."""
+    if PTRACE(request, process, None, data) < 0:
+        raise OSError(ctypes.get_errno(), os.strerror(ctypes.get_errno()))
+
+
+def peak(program, words, folder):
+    """Runs the program once more; returns its peak memory in bytes.
+
+    What the system tells of a child that has ended counts what its parent held when it was started, too. So the child is
+    traced, and what is told of it alone is read when it is about to end.
+    """
+    with open(os.path.join(folder, "asked"), "rb") as asked:
+        child = subprocess.Popen([program, *words], cwd=folder, stdin=asked, stdout=subprocess.DEVNULL,
+                                 stderr=subprocess.DEVNULL, preexec_fn=lambda: PTRACE(TRACE_ME, 0, None, None))
+    # It stops where the program begins.
+    if not os.WIFSTOPPED(os.waitpid(child.pid, 0)[1]):
+        raise ValueError("no program can be traced here, so that its peak memory isn't known")
+    ptrace(SET_OPTIONS, child.pid, STOP_AT_EXIT)
+    ptrace(GO_ON, child.pid)
+    if os.waitpid(child.pid, 0)[1] >> 16 != EXITS:
+        child.kill()
+        raise ValueError(f"{program} {' '.join(words)} was stopped before its end")
+    told = pathlib.Path(f"/proc/{child.pid}/status").read_text(encoding="utf-8")
+    ptrace(GO_ON, child.pid)
+    child.wait()
+    return int(told.split("VmHWM:")[1].split()[0]) * 1024
 
 
 def bare_start(program, folder):
     """The processor time of a start that does nothing else."""
     pathlib.Path(folder, "asked").write_text("", encoding="utf-8")
-    return min(run(program, ["--help"], 0, folder)[0] for _ in range(10))
+    return min(run(program, ["--help"], 0, folder) for _ in range(10))
 
 
 def measured(program, form, size, bare, folder):
     """Makes the texts of one size, runs the program on them, prints a line, and returns their size and its time."""
     in_child("--make", form, size, folder)
     words, status = words_of(form, size), FORMS[form][3]
-    done = [run(program, words, status, folder) for _ in range(RUNS)]
-    seconds, memory = min(it[0] for it in done) - bare, max(it[1] for it in done)
+    seconds = min(run(program, words, status, folder) for _ in range(RUNS)) - bare
+    memory = peak(program, words, folder)
     python = float(in_child("--loads", folder))
     length = sum(it.stat().st_size for it in pathlib.Path(folder).iterdir() if it.name != "asked")
     print(f"{size:7} {length:11} {seconds:9.3f} {memory / 1e6:8.1f} {python:9.3f} {seconds / python:6.2f}"
