@@ -43,7 +43,9 @@ Each form is a kind of text in growing sizes; the names of all forms, or those t
   Its floor is the JSON value that is made of the text and dropped again: half of the instructions;
 - read-certificate: a certificate of so many megabytes, which is read and checked. Half of the instructions read the keywords
   of shapes as levels and put the shapes into the table, a sixth takes the tokens, and a twelfth makes the trees of the
-  keywords other than properties.
+  keywords other than properties;
+- read-declared: declared shapes of so many megabytes, beside a small definition, which are read and checked: the input is an
+  object, each field of which is an object of 20 fields.
 
 For each size: the processor time of the program (user and system, the fastest of three runs) less that of a bare start, its
 peak memory (its own, in one more run, which the system stops at its end), the time that json.loads takes for what the
@@ -349,6 +351,14 @@ def long_certificate(megabytes):
     return checked(megabytes * 1000000 // entry, 20)
 
 
+def long_declared(megabytes):
+    """One Pass state with declared shapes of so many megabytes, an object of objects, and a certificate that takes everything."""
+    field = len(json.dumps({"S00000": shape(20)}, separators=(",", ":"))) - 1
+    each = {it: shape(20) for it in names(megabytes * 1000000 // field)}
+    one = {"type": "object", "properties": each, "additionalProperties": False}
+    return {**certified(alone({"Type": "Pass", "End": True}), True), "declared": {"input": one, "tasks": {}}}
+
+
 # The words behind the program's name, where SIZE stands for the size; a check reads its texts as lines.
 CHECK = []
 INFER = ["infer", "definition", "declared"]
@@ -396,6 +406,7 @@ FORMS = {
     "read-unsorted": (lambda n: read(dict(reversed(CUSTOMER.items())), n), [2, 4, 8], READ, 4),
     "read-definition": (long_definition, [2, 4, 8], READ, 4),
     "read-certificate": (long_certificate, [2, 4, 8], CHECK, 0),
+    "read-declared": (long_declared, [1, 2, 4, 8], CHECK, 0),
 }
 
 
