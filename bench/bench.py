@@ -1,7 +1,7 @@
 #!/usr/bin/env python3
 """Times the program on large texts, beside Python's own reading of the same texts.
 
-usage: python3 bench/bench.py [--program FILE] [FORM..]
+usage: python3 bench/bench.py [--program FILE] [--plain] [FORM..]
 
 Each form is a kind of text in growing sizes; the names of all forms, or those that are named:
 - chains: the check of a chain of Pass states, each with object shapes of 20 fields as input and output; the certificate
@@ -52,9 +52,16 @@ peak memory (its own, in one more run, which the system stops at its end), the t
 program reads and prints (fastest of three), the ratio of the two, and the bytes of memory a byte of what is read and
 printed. Between two sizes: the exponent by which the time grows in what is read and printed. The exit status is 0 where
 every run ended as it must.
+
+With --plain the figures of a plain program stand beside those: bench/plain.rs, which does the same with nothing proved. It
+is compiled by rustc (1.88 or later) into a folder that is removed in the end, and run on the same texts: its processor time
+less that of its own bare start, its peak memory, and the ratios of the program's time and memory to these. Only the forms
+that it does are taken. Where it prints other bytes or ends with another status, that is told and makes the exit status 1;
+where it can't be compiled, the exit status is 2.
 """
 
 import ctypes
+import filecmp
 import itertools
 import json
 import math
@@ -68,6 +75,8 @@ import time
 
 TOP = pathlib.Path(__file__).resolve().parent.parent
 PROGRAM = TOP / "crates/asl/out/asl"
+PLAIN = TOP / "bench/plain.rs"
+COMPILE = ["rustc", "--edition=2024", "-Copt-level=3", "-Ccodegen-units=1", "-Cpanic=abort"]
 RUNS = 3
 LIMIT = 16777216
 # json.loads recurses: what a growing loop prints nests thousands of levels.
@@ -409,6 +418,10 @@ FORMS = {
     "read-declared": (long_declared, [1, 2, 4, 8], CHECK, 0),
 }
 
+# The forms that the plain program does.
+PLAINLY = ["chains", "wide", "check-wide", "check-deep", "run-chain", "run-map", "run-map-last", "run-tasks-last", "run-parallel",
+           "run-retry", "run-wide", "read-records", "read-numbers", "read-unsorted", "read-certificate", "read-declared"]
+
 
 def words_of(form, size):
     """The words behind the program's name."""
@@ -450,10 +463,10 @@ def in_child(*words):
     return subprocess.run(command, stdout=subprocess.PIPE, check=True, text=True).stdout
 
 
-def run(program, words, status, folder):
-    """Runs the program once; returns its processor time in seconds."""
-    with open(os.path.join(folder, "asked"), "rb") as asked, open(os.path.join(folder, "said"), "wb") as said:
-        child = subprocess.Popen([program, *words], cwd=folder, stdin=asked, stdout=said, stderr=subprocess.DEVNULL)
+def run(program, words, status, folder, said="said"):
+    """Runs the program once, which prints into the file of that name; returns its processor time in seconds."""
+    with open(os.path.join(folder, "asked"), "rb") as asked, open(os.path.join(folder, said), "wb") as out:
+        child = subprocess.Popen([program, *words], cwd=folder, stdin=asked, stdout=out, stderr=subprocess.DEVNULL)
         _, ended, used = os.wait4(child.pid, 0)
     child.returncode = os.waitstatus_to_exitcode(ended)
     if child.returncode != status:
@@ -496,37 +509,50 @@ def bare_start(program, folder):
     return min(run(program, ["--help"], 0, folder) for _ in range(10))
 
 
-def measured(program, form, size, bare, folder):
-    """Makes the texts of one size, runs the program on them, prints a line, and returns their size and its time."""
-    in_child("--make", form, size, folder)
+def figures(program, bare, form, size, folder, said="said"):
+    """Runs the program on the texts of one size, and returns its processor time less a bare start, and its peak memory."""
     words, status = words_of(form, size), FORMS[form][3]
-    seconds = min(run(program, words, status, folder) for _ in range(RUNS)) - bare
-    memory = peak(program, words, folder)
+    seconds = min(run(program, words, status, folder, said) for _ in range(RUNS)) - bare
+    return seconds, peak(program, words, folder)
+
+
+def measured(programs, form, size, folder):
+    """Makes the texts of one size, runs the programs on them, prints a line, and returns their size and the first one's time."""
+    in_child("--make", form, size, folder)
+    seconds, memory = figures(*programs[0], form, size, folder)
     python = float(in_child("--loads", folder))
     length = sum(it.stat().st_size for it in pathlib.Path(folder).iterdir() if it.name != "asked")
-    print(f"{size:7} {length:11} {seconds:9.3f} {memory / 1e6:8.1f} {python:9.3f} {seconds / python:6.2f}"
-          f" {memory / length:7.1f}", flush=True)
+    line = (f"{size:7} {length:11} {seconds:9.3f} {memory / 1e6:8.1f} {python:9.3f} {seconds / python:6.2f}"
+            f" {memory / length:7.1f}")
+    for program, bare in programs[1:]:
+        plainly, room = figures(program, bare, form, size, folder, "said-plainly")
+        ratio = f"{seconds / plainly:6.2f}" if plainly > 0 else "     -"
+        line += f" {plainly:9.4f} {room / 1e6:8.1f} {ratio} {memory / room:6.2f}"
+    print(line, flush=True)
+    if programs[1:] and not filecmp.cmp(*(os.path.join(folder, it) for it in ("said", "said-plainly")), shallow=False):
+        raise ValueError(f"{form} {size}: the plain program prints other bytes")
     return length, seconds
 
 
-def sizes_of(program, form, bare):
+def sizes_of(programs, form):
     """Measures the form in its sizes, and gives for each how much is read and printed and how long it takes."""
     for size in FORMS[form][1]:
         with tempfile.TemporaryDirectory(prefix="asl-bench-") as folder:
-            yield measured(program, form, size, bare, folder)
+            yield measured(programs, form, size, folder)
 
 
-def bench(program, forms):
-    """Measures the forms in all their sizes. Returns whether every run ended as it must."""
+def bench(programs, forms):
+    """Measures the forms in all their sizes, with one program or with two. Returns whether every run ended as it must."""
     with tempfile.TemporaryDirectory(prefix="asl-bench-") as folder:
-        bare = bare_start(program, folder)
-    print(f"a bare start: {bare * 1000:.1f} ms")
+        programs = [(it, bare_start(it, folder)) for it in programs]
+    print("a bare start: " + ", plain: ".join(f"{bare * 1000:.1f} ms" for _, bare in programs))
     is_well = True
     for form in forms:
         print(f"== {form}")
-        print("   size     bytes/B program/s  peak/MB  python/s  ratio  B per B")
+        print("   size     bytes/B program/s  peak/MB  python/s  ratio  B per B"
+              + ("   plain/s  peak/MB   time memory" if programs[1:] else ""))
         try:
-            for (length, seconds), (longer, more) in itertools.pairwise(sizes_of(program, form, bare)):
+            for (length, seconds), (longer, more) in itertools.pairwise(sizes_of(programs, form)):
                 # What takes no longer than a bare start has no growth to tell.
                 if min(seconds, more) > 0:
                     exponent = math.log(more / seconds) / math.log(longer / length)
@@ -535,6 +561,29 @@ def bench(program, forms):
             print(why, flush=True)
             is_well = False
     return is_well
+
+
+def compiled(folder):
+    """Compiles the plain program into the folder, and returns its path; where that can't be done, a line tells why."""
+    program = os.path.join(folder, "plain")
+    try:
+        subprocess.run([*COMPILE, "-o", program, PLAIN], check=True)
+    except FileNotFoundError:
+        print("--plain wants rustc, which isn't there", file=sys.stderr)
+        return None
+    except subprocess.CalledProcessError:
+        print(f"rustc doesn't compile {PLAIN}", file=sys.stderr)
+        return None
+    return program
+
+
+def bench_plainly(program, forms):
+    """Measures those of the forms that the plain program does, with both programs. Returns the exit status."""
+    with tempfile.TemporaryDirectory(prefix="asl-bench-") as folder:
+        plain = compiled(folder)
+        if not plain:
+            return 2
+        return 0 if bench([program, plain], [it for it in forms if it in PLAINLY]) else 1
 
 
 def main(words):
@@ -547,13 +596,16 @@ def main(words):
         reader.start()
         reader.join()
     else:
-        program = PROGRAM
+        program, is_plain = PROGRAM, "--plain" in words
+        words = [it for it in words if it != "--plain"]
         if words[:1] == ["--program"]:
             program, words = pathlib.Path(words[1]).resolve(), words[2:]
         if any(it not in FORMS for it in words):
             print(__doc__, end="", file=sys.stderr)
             return 2
-        return 0 if bench(program, words or FORMS) else 1
+        if is_plain:
+            return bench_plainly(program, words or FORMS)
+        return 0 if bench([program], words or FORMS) else 1
     return 0
 
 
