@@ -1,6 +1,7 @@
 -- When two nodes are equal: where the shapes that they stand for are, over a table in which no shape stands twice.
-use Rattle.std.proofs.Common.{◌≡◌, ℕ, List, [], ◌∷◌, length, map, ◌≤◌, Bool, true, ◌&&◌, Vec, Global, bytes_eq, refl, sym, ap, ◌∙◌, arith}
+use Rattle.std.proofs.Common.{◌≡◌, ℕ, List, [], ◌∷◌, length, map, nat_eq, ◌≤◌, Bool, true, false, if◌then◌else◌, ◌&&◌, Vec, Global, bytes_eq, refl, sym, ap, ◌∙◌, arith}
 use Rattle.std.proofs.lemmas.Bool.{and_parts, and_from, eqb-true, eq-eqb}
+use Rattle.std.proofs.lemmas.Bool.Decides.{nat_tests}
 use Rattle.std.proofs.lemmas.Slice.Eq.{bytes_eq-Decides}
 use Rattle.std.specs.Cmp.{booleans_Decides}
 use Rattle.std.specs.Cmp.Lexicographic.{pointwise}
@@ -71,6 +72,20 @@ same-shape table (Several numbers) y e = absurd (cc)
 
 -- ---- nodes of one shape are equal
 
+other : (m n : ℕ) → nat_eq m n ≡ false → m ≡ n → ⊥
+other m n apart e = grind (arith, nat_tests)
+
+-- a number for each of the shapes that have no parts, and for those that have some
+code : model.Shape → ℕ
+code model.Any = 0
+code (model.OfKinds simple arrays objects) =
+    if simple.null then 1 else
+    (if simple.boolean then 2 else
+    (if simple.integer then 3 else
+    (if simple.text then 4 else
+    (if model.has_arrays arrays then 5 else
+    (if model.has_objects objects then 6 else 7)))))
+
 module _ (table : List model.Shape) (distinct : AreDistinct table) where
   numbers-alike : (ns ms : List ℕ) → AreBelow (length table) ns → AreBelow (length table) ms → shapes_at table ns ≡ shapes_at table ms → ns ≡ ms
   numbers-alike [] [] h i e = refl
@@ -104,6 +119,10 @@ module _ (table : List model.Shape) (distinct : AreDistinct table) where
       let number = distinct.apart n m h.0 i.0 shape in
       rw (number, list-alike ns ms h.1 i.1 shapes) refl
 
+  -- nodes of other codes stand for other shapes
+  apart-codes : {A : Type 0} (x y : Node) → nat_eq (code (shape_over table x)) (code (shape_over table y)) ≡ false → shape_over table x ≡ shape_over table y → A
+  apart-codes x y apart e = absurd (other _ _ apart (ap code e))
+
   -- several shapes are no shape of one kind, or of none
   apart-several : (numbers : Vec ℕ Global) (s : model.Shape) → HasProperParts table (Several numbers) → length (parts_of s) ≤ 1 → s ≡ shape_over table (Several numbers) → ⊥
   apart-several numbers s p few e =
@@ -121,19 +140,19 @@ module _ (table : List model.Shape) (distinct : AreDistinct table) where
   alike-equal Any y h i p q e = absurd (cc)
   alike-equal Never Never h i p q e = refl
   alike-equal Never (Several others) h i p q e = absurd (apart-several others (shape_over table Never) q (omega arith) e)
-  alike-equal Never y h i p q e = absurd (grind arith)
+  alike-equal Never y h i p q e = apart-codes Never y refl e
   alike-equal Null Null h i p q e = refl
   alike-equal Null (Several others) h i p q e = absurd (apart-several others (shape_over table Null) q (omega arith) e)
-  alike-equal Null y h i p q e = absurd (grind arith)
+  alike-equal Null y h i p q e = apart-codes Null y refl e
   alike-equal Truth Truth h i p q e = refl
   alike-equal Truth (Several others) h i p q e = absurd (apart-several others (shape_over table Truth) q (omega arith) e)
-  alike-equal Truth y h i p q e = absurd (grind arith)
+  alike-equal Truth y h i p q e = apart-codes Truth y refl e
   alike-equal Int Int h i p q e = refl
   alike-equal Int (Several others) h i p q e = absurd (apart-several others (shape_over table Int) q (omega arith) e)
-  alike-equal Int y h i p q e = absurd (grind arith)
+  alike-equal Int y h i p q e = apart-codes Int y refl e
   alike-equal Text Text h i p q e = refl
   alike-equal Text (Several others) h i p q e = absurd (apart-several others (shape_over table Text) q (omega arith) e)
-  alike-equal Text y h i p q e = absurd (grind arith)
+  alike-equal Text y h i p q e = apart-codes Text y refl e
   alike-equal (Elements first rest) (Elements others further) h i p q e =
       let front : shapes_at table first.items ≡ shapes_at table others.items = cc in
       let behind : shape_at table rest ≡ shape_at table further = cc in
