@@ -76,7 +76,7 @@ other : (m n : ℕ) → nat_eq m n ≡ false → m ≡ n → ⊥
 other m n apart e = grind (arith, nat_tests)
 
 -- a number for each of the shapes that have no parts, and for those that have some
-code : model.Shape → ℕ
+abbrev code : model.Shape → ℕ
 code model.Any = 0
 code (model.OfKinds simple arrays objects) =
     if simple.null then 1 else

@@ -26,7 +26,7 @@ use Rattle.asl_numbered.specs.declared.node.NodeField.{NodeField}
 use Rattle.asl_numbered.specs.Examples.{examples_at}
 use Rattle.asl_numbered.specs.Expansion.{shape_at, shapes_at, fields_at, AreBelow}
 use Rattle.asl_numbered.specs.Joins.{kept}
-use Rattle.asl_numbered.specs.Outside.{first_shape, places_over, mentions_over, levels_over, AreLivePlaces, IsSought, needed_of, step_over, numbers_of, IsFound, found_elements, mentioned_fields, unmentioned_fields, forbidden_fields, found_fields}
+use Rattle.asl_numbered.specs.Outside.{sought_tree, first_shape, places_over, mentions_over, levels_over, AreLivePlaces, IsSought, needed_of, step_over, numbers_of, IsFound, found_elements, mentioned_fields, unmentioned_fields, forbidden_fields, found_fields}
 use Rattle.asl_numbered.specs.TakenApart.{arrays_over, objects_over, kinds_over}
 use Rattle.asl_numbered.proofs.Built.{examples_listed}
 use Rattle.asl_numbered.proofs.Parts.{IsNextPart, next_part, no_part}
@@ -98,6 +98,13 @@ same_found table bound tree other found e is = subst (λ t. IsFound table bound 
 pub later_is_found : (table : List Shape) (bound : ℕ) (tree later : Option Tree) (none found : Option Found) → IsFound table bound tree none → is_some none ≡ false → IsFound table bound later found → IsFound table bound (option_or tree later) found
 later_is_found table bound tree later none found is fails further =
     same_found table bound later (option_or tree later) found (ap (λ t. option_or t later) (found_none table bound tree none is fails)) further
+
+-- the first of two, where there is one
+pub first_is_found : (table : List Shape) (bound : ℕ) (tree later : Option Tree) (found : Option Found) → IsFound table bound tree found → is_some found ≡ true → IsFound table bound (option_or tree later) found
+first_is_found table bound tree later None is some = absurd (cc)
+first_is_found table bound tree later (Some f) is some =
+    let there = ap is_some is.same ∙ map_some (step_over table f.step) (sought_tree table f.next) ∙ is.there in
+    same_found table bound tree (option_or tree later) (Some f) (or_found tree later there) is
 
 -- ---- the kinds of a first shape
 
@@ -283,6 +290,9 @@ fields_apart table m o =
     let new = unmentioned_fields table m o.fields.now.entries in
     let shut = only_if (not o.extra) (forbidden_fields table m o.fields.now.entries) in
     map_or Object common (option_or new shut) ∙ ap (option_or (option_map Object common)) (map_or Object new shut)
+
+pub mentioned_first : (table : List Shape) (bound : ℕ) (m : Mentions) (o : NodeObjects) (found : Option Found) → IsFound table bound (option_map Object (mentioned_fields table m.fields.now.entries o.fields.now.entries)) found → is_some found ≡ true → IsFound table bound (option_map Object (found_fields table m o)) found
+mentioned_first table bound m o found is some = same_found table bound _ _ found (fields_apart table m o) (first_is_found table bound _ _ found is some)
 
 pub forbidden_last : (table : List Shape) (bound : ℕ) (m : Mentions) (o : NodeObjects) (none next found : Option Found) → IsFound table bound (option_map Object (mentioned_fields table m.fields.now.entries o.fields.now.entries)) none → is_some none ≡ false → IsFound table bound (option_map Object (unmentioned_fields table m o.fields.now.entries)) next → is_some next ≡ false → o.extra ≡ false → IsFound table bound (option_map Object (forbidden_fields table m o.fields.now.entries)) found → IsFound table bound (option_map Object (found_fields table m o)) found
 forbidden_last table bound m o none next found first fails second also shut is =

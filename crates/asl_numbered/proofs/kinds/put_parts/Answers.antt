@@ -21,3 +21,6 @@ returns-clause-listed c =
     let with_objects = subst (AreListed middle _) (sym c.in_ok-push_number-2.ensures) (listed_more middle _ objects c.push_if-3.new.parts.items (option_to_list c.objects_number-objects.result) with_null own) in
     let kinds = c.args.kinds in
     all_listed _ arrays (part_if kinds.boolean BooleanShape) (part_if kinds.integer IntegerShape) (part_if kinds.null NullShape) objects (part_if kinds.text StringShape) _ (c.in_ok-push_if-4.ensures.listed _ with_objects)
+
+pub returns-clause-keeps : goal.returns-clause-keeps
+returns-clause-keeps c = keeps_trans _ _ _ (keeps_trans _ _ _ (keeps_trans _ _ _ c.in_ok-push_if.ensures.keeps c.in_ok-push_if-2.ensures.keeps) c.in_ok-push_if-3.ensures.keeps) c.in_ok-push_if-4.ensures.keeps
