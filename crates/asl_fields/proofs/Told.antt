@@ -1,11 +1,11 @@
 -- Complaints that are told one after another.
-use Rattle.std.proofs.Common.{◌≡◌, ◌≤◌, zero, suc, List, [], ◌∷◌, ◌++◌, length, map, Option, Some, None, Result, Ok, Err, OnOk, refl, sym, ap, ◌∙◌, subst, append-nil, append_assoc, arith}
+use Rattle.std.proofs.Common.{◌≡◌, ◌≤◌, zero, suc, ℕ, true, false, option_map, rules, List, [], ◌∷◌, ◌++◌, length, map, Option, Some, None, Result, Ok, Err, OnOk, refl, sym, ap, ◌∙◌, subst, append-nil, append_assoc, arith}
 use Rattle.std.specs.List.{Contains}
 use Rattle.std.proofs.lemmas.List.{map-append}
 use Rattle.asl_model.specs.DefinitionTable as model
-use Rattle.asl_model.specs.StandsFor.{Complaint}
+use Rattle.asl_model.specs.StandsFor.{Complaint, Place, complaint_at}
 use Rattle.asl_fields.specs.declared.places.Complaint.{Complaint as Objection}
-use Rattle.asl_fields.specs.Verdicts.{IsAmong, IsVerdict, complaint_view}
+use Rattle.asl_fields.specs.Verdicts.{IsAmong, IsVerdict, complaint_view, told_unless}
 use Rattle.asl_fields.specs.Telling.{IsSingle, IsTold, Tells, Told}
 
 -- ---- lists of complaints
@@ -79,3 +79,13 @@ fault_told (Err e) before after found P f h told = tt
 -- the same under another name
 pub tells_as : {a b : List (Option Complaint)} {xs ys : List Complaint} → xs ≡ ys → Tells a b xs → Tells a b ys
 tells_as {a} {b} e h = subst (λ zs. Tells a b zs) e h
+
+-- ---- one fault, unless a test holds
+
+pub told_right : (place : Place) (field : List ℕ) (fault : Option model.DefFault) → told_unless true place field fault ≡ []
+told_right place field None = refl
+told_right place field (Some f) = refl
+
+pub told_wrong : (place : Place) (field : List ℕ) (fault : Option model.DefFault) (told : Option Complaint) → told ≡ option_map (complaint_at place field) fault → IsAmong (told_unless false place field fault) told
+told_wrong place field None told is = subst (IsAmong []) (sym is) tt
+told_wrong place field (Some f) told is = subst (IsAmong (complaint_at place field f ∷ [])) (sym is) (search rules)
