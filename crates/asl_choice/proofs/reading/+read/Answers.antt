@@ -1,7 +1,8 @@
-use Rattle.std.proofs.Common.{◌≡◌, Err, refl, sym, ap, ◌∙◌, ◌+◌, ◌==◌, ℕ, List, [], ◌∷◌, String, string_bytes, nat_cmp, length, drop, map, false, Some, option_map, codes, arith}
+use Rattle.std.proofs.Common.{◌≡◌, Err, refl, sym, ap, ◌∙◌, ◌+◌, ◌==◌, ℕ, List, [], ◌∷◌, String, string_bytes, nat_cmp, length, drop, map, subst, false, Some, option_map, codes, arith}
 use Rattle.std.proofs.lemmas.Grind.{common_steps}
 use Rattle.std.proofs.lemmas.List.{take_all}
 use Rattle.std.proofs.lemmas.Result.{err_from_is_err_and}
+use Rattle.std.specs.Prelude.{IfOk}
 use Rattle.std.specs.declared.alloc.Global.{Global}
 use Rattle.std.specs.BTreeMap.{is_at}
 use Rattle.std.specs.Cmp.Lexicographic.{slice_cmp}
@@ -13,7 +14,8 @@ use Rattle.serde_json.specs.declared.value.Value.{Value}
 use Rattle.asl_tree.proofs.Texts.{elements_none}
 use Rattle.asl_tree.proofs.Values.{field_named_lookup}
 use Rattle.asl_tree.specs.Values.{tree_in, fields_in}
-use Rattle.asl_choice.proofs.Fields.{smaller, member_lost, variable_faults_one}
+use Rattle.asl_choice.specs.View.{view}
+use Rattle.asl_choice.proofs.Fields.{smaller, member_lost, variable_faults_one, variable_test_one}
 use Rattle.asl_choice.proofs.Lists.{tests_read, element_told, list_right, no_one_field, right_same, told_all}
 use Rattle.asl_choice.proofs.reading.+read.Goals as goal
 
@@ -72,6 +74,14 @@ read_test-returns-in-Some-get-clause-right t c =
     let v = tree_in c.in-Some-get.variable.now in
     let operand = tree_in c.in-Some.value.now in
     right_same _ _ c.read_variable_test.result (variable_faults_one fs v c.deref.result.now operand (found c.args.members.now.entries c.in-Some-get.variable.now c.in-Some-get.ensures.value) (one fs (string_bytes c.in-Some.name.now) c.deref.result.now operand c.in-Some.ensures.field c.deref.ensures)) c.read_variable_test.ensures.right
+
+pub read_test-returns-in-Some-get-clause-test : goal.read_test-returns-in-Some-get-clause-test
+read_test-returns-in-Some-get-clause-test t c =
+    let fs = fields_in c.args.members.now.entries in
+    let v = tree_in c.in-Some-get.variable.now in
+    let operand = tree_in c.in-Some.value.now in
+    let same = variable_test_one fs v c.deref.result.now operand (found c.args.members.now.entries c.in-Some-get.variable.now c.in-Some-get.ensures.value) (one fs (string_bytes c.in-Some.name.now) c.deref.result.now operand c.in-Some.ensures.field c.deref.ensures) in
+    subst (λ wanted. IfOk c.read_variable_test.result (λ test. view test ≡ wanted)) (sym same) c.read_variable_test.ensures.test
 
 pub read_test-returns-in-Some-get-clause-refused : goal.read_test-returns-in-Some-get-clause-refused
 read_test-returns-in-Some-get-clause-refused t c =
