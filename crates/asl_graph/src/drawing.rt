@@ -260,6 +260,7 @@ impl Drawer<'_> {
     fn input_shape(&self) -> Result<Option<String>, OutOfMemory> {
         match self.known {
             Some(known) => known
+                .facts
                 .flows
                 .input_text(self.alloc, &known.certificate.shapes),
             None => Ok(None),
@@ -275,7 +276,10 @@ impl Drawer<'_> {
         match self.known {
             Some(known) => {
                 let shapes = &known.certificate.shapes;
-                known.flows.text_along(self.alloc, shapes, number, exit)
+                known
+                    .facts
+                    .flows
+                    .text_along(self.alloc, shapes, number, exit)
             }
             None => Ok(None),
         }

@@ -22,6 +22,12 @@ use std::alloc::Global;
 #[derive(Drop)]
 pub(crate) struct Known {
     pub(crate) certificate: NumberedCertificate,
+    pub(crate) facts: Facts,
+}
+
+/// What a certificate tells of a machine.
+#[derive(Drop)]
+pub(crate) struct Facts {
     pub(crate) flows: Flows,
     /// How each state looks, by its number.
     looks: Vec<Look>,
@@ -43,25 +49,37 @@ impl Known {
             (λ known. IfNone known
             (NeverSettlesLeniently table (declared_view declared.now) max_rounds)) }
     {
-        let Some(mut certificate) = infer_leniently(alloc, machine, declared, max_rounds)? else {
-            return Ok(None);
-        };
-        let findings = find_all(alloc, machine, declared, &mut certificate)?;
-        let flows = flows_of(alloc, machine, declared, with_shapes, &mut certificate)?;
-        let stops = stops_of(alloc, &findings)?;
-        let behind = behind_stops(alloc, machine, &mut certificate, &stops)?;
-        let looks = looks_of(alloc, machine, &certificate, &behind, &findings)?;
-        Ok(Some(Known {
-            certificate,
-            flows,
-            looks,
-        }))
+        match infer_leniently(alloc, machine, declared, max_rounds)? {
+            Some(mut certificate) => {
+                let facts = facts_of(alloc, machine, declared, with_shapes, &mut certificate)?;
+                Ok(Some(Known { certificate, facts }))
+            }
+            None => Ok(None),
+        }
     }
 
     /// How the state of that number looks.
     pub(crate) fn look_of(&self, state: usize) -> Look {
-        self.looks.get(state).copied().unwrap_or(Look::Plain)
+        self.facts.looks.get(state).copied().unwrap_or(Look::Plain)
     }
+}
+
+/// What the certificate tells of the machine: what flows between states, where that is wanted, and how each looks.
+fn facts_of(
+    alloc: Global,
+    machine: &Machine,
+    declared: &Declared,
+    with_shapes: bool,
+    certificate: &mut NumberedCertificate,
+) -> Result<Facts, OutOfMemory>
+    requires { AreWithin certificate.old }
+{
+    let findings = find_all(alloc, machine, declared, certificate)?;
+    let flows = flows_of(alloc, machine, declared, with_shapes, certificate)?;
+    let stops = stops_of(alloc, &findings)?;
+    let behind = behind_stops(alloc, machine, certificate, &stops)?;
+    let looks = looks_of(alloc, machine, certificate, &behind, &findings)?;
+    Ok(Facts { flows, looks })
 }
 
 /// The flows, where they are wanted.
