@@ -1,6 +1,5 @@
 // Two shapes in a table.
 ghost use Rattle.asl_numbered.specs.Expansion.{Shows};
-ghost use Rattle.asl_numbered.specs.Laws.{kept_shape, kept_within};
 ghost use Rattle.asl_shape.specs.View.{view};
 ghost use Rattle.std.specs.Prelude.{IfOk};
 
