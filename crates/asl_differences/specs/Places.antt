@@ -4,10 +4,12 @@ use Rattle.std.specs.Prelude.{◌≡◌, ◌≢◌, IsTrue, List, [], ◌∷◌,
 use Rattle.asl_model.specs.Names.{FieldName}
 use Rattle.asl_model.specs.Tree.{comes_before}
 use Rattle.asl_model.specs.Path as model
-use Rattle.asl_model.specs.Path.{Segment, named_by}
+use Rattle.asl_model.specs.Path.{Segment, child, named_by}
 use Rattle.asl_model.specs.Tree as trees
 use Rattle.asl_tree.specs.View.{view}
 use Rattle.asl_tree.specs.declared.Tree.{Tree}
+use Rattle.asl_differences.specs.declared.misfits.Misfit.{Misfit}
+use Rattle.asl_differences.specs.declared.misfits.Part.{Part}
 use Rattle.asl_differences.specs.declared.paths.Step.{Step}
 use Rattle.asl_differences.specs.declared.paths.Step.TheVariants.{Name, Index}
 use Rattle.asl_differences.specs.declared.trees.Difference.{Difference}
@@ -32,6 +34,10 @@ pub record IsDifference (a b : trees.Tree) (difference : Difference) : Type 0 wh
   pub found : named_by (path_of difference.way.items) b ≡ told difference.found
   pub differ : told difference.expected ≢ told difference.found
 
+-- The path leads in the tree to what is told as found; to nothing where nothing is.
+pub record IsPlace (t : trees.Tree) (misfit : Misfit) : Type 0 where
+  pub found : named_by (path_of misfit.way.items) t ≡ told misfit.found
+
 -- ---- for private clauses
 
 -- that path is told, with that on both sides
@@ -44,3 +50,7 @@ pub record TellsOf (segments : List Segment) (one other : Option trees.Tree) (di
 pub data IsAlone (n m : FieldName) (expected found : trees.Tree) (difference : Difference) : Type 0 where
   expected_alone : IsTrue (comes_before n m) → TellsOf (model.Name n ∷ []) (Some expected) None difference → IsAlone n m expected found difference
   found_alone : IsTrue (comes_before m n) → TellsOf (model.Name m ∷ []) None (Some found) difference → IsAlone n m expected found difference
+
+-- The step leads in the tree to what is told as found.
+pub record IsPart (t : trees.Tree) (part : Part) : Type 0 where
+  pub found : child (segment_of part.step) t ≡ told part.found

@@ -1,10 +1,12 @@
 //! Where a tree isn't of a shape.
 
-ghost use Rattle.std.specs.Prelude.{◌≡◌, ◌↔◌, None, IfOk, IfSome};
+ghost use Rattle.std.specs.Prelude.{◌≡◌, ◌↔◌, None, IfOk, IfSome, IsSomeAnd, OnOk};
 ghost use Rattle.asl_model.specs.Shape.{Has};
+ghost use Rattle.asl_model.specs.Tree as model;
 ghost use Rattle.asl_shape.specs.View.{view};
 ghost use Rattle.asl_tree.specs.View as trees;
 ghost use Rattle.asl_differences.specs.Misfits.{IsMisfit, IsMisfitOf};
+ghost use Rattle.asl_differences.specs.Places.{IsPlace, IsPart};
 
 use crate::paths::{Step, path_text};
 use crate::words::{expected_found, found_text};
@@ -45,7 +47,8 @@ struct Part<'t> {
 
 /// The first place, as far as 64 levels down, where the tree isn't of the shape; none exactly where it is of it. Elements
 /// come in their order, and so do the mentioned fields, in byte order of the names; behind these the fields that mustn't
-/// be there. Refuses only where an allocation was refused.
+/// be there. The path of the place leads in the tree to what is told as found; to nothing where nothing is. Refuses only
+/// where an allocation was refused.
 pub fn first_misfit<'t>(
     alloc: Global,
     shape: &'t Shape,
@@ -54,6 +57,7 @@ pub fn first_misfit<'t>(
     ensures exactly { IfOk result (λ misfit. misfit ≡ None
         ↔ Has (view shape.now) (trees.view tree.now)) }
     ensures there { IfOk result (λ misfit. IfSome misfit IsMisfit) }
+    ensures place { IfOk result (λ misfit. IfSome misfit (IsPlace (trees.view tree.now))) }
 {
     if has(shape, tree) {
         return Ok(None);
@@ -72,6 +76,8 @@ impl<'t> Misfit<'t> {
     fn go_down(&mut self) -> Result<(), OutOfMemory>
         requires before { IsMisfit self.old }
         ensures after { IsMisfit self.new }
+        ensures place { OnOk result
+            ((tree : model.Tree) → IsPlace tree self.old → IsPlace tree self.new) }
     {
         for _level in 0..MOST_LEVELS {
             let Some(part) = self.part() else {
@@ -86,7 +92,9 @@ impl<'t> Misfit<'t> {
 
     /// The first part that is the reason why the tree isn't of the shape; none where the tree itself is.
     fn part(&self) -> Option<Part<'t>>
-        ensures { IfSome result (λ part. IsMisfitOf part.wanted part.found) }
+        ensures misfit { IfSome result (λ part. IsMisfitOf part.wanted part.found) }
+        ensures place { IfSome result (λ part. IsSomeAnd self.now.found
+            (λ tree. IsPart (trees.view tree.now) part)) }
     {
         let (Some(shape), Some(tree)) = (self.wanted, self.found) else {
             return None;
@@ -115,7 +123,9 @@ impl<'t> Misfit<'t> {
 
 /// The first element that is missing, or that isn't of its shape.
 fn first_element<'t>(arrays: Arrays<'t>, elements: &'t [Tree]) -> Option<Part<'t>>
-    ensures { IfSome result (λ part. IsMisfitOf part.wanted part.found) }
+    ensures misfit { IfSome result (λ part. IsMisfitOf part.wanted part.found) }
+    ensures place { IfSome result
+        (IsPart (model.Array (trees.elements_view elements.now))) }
 {
     let mut left = elements.iter();
     for (index, shape) in arrays.first.iter().enumerate() {
@@ -129,7 +139,9 @@ fn first_element<'t>(arrays: Arrays<'t>, elements: &'t [Tree]) -> Option<Part<'t
 
 /// The first element behind those with a shape of their own that isn't of the shape of these.
 fn first_further<'t>(arrays: Arrays<'t>, elements: &'t [Tree]) -> Option<Part<'t>>
-    ensures { IfSome result (λ part. IsMisfitOf part.wanted part.found) }
+    ensures misfit { IfSome result (λ part. IsMisfitOf part.wanted part.found) }
+    ensures place { IfSome result
+        (IsPart (model.Array (trees.elements_view elements.now))) }
 {
     let own = arrays.first.len();
     for (index, element) in elements.iter().enumerate() {
@@ -146,7 +158,9 @@ fn first_further<'t>(arrays: Arrays<'t>, elements: &'t [Tree]) -> Option<Part<'t
 
 /// The first mentioned field that is missing, or isn't of its shape, or else the first that mustn't be there.
 fn first_member<'t>(objects: Objects<'t>, members: &'t BTreeMap<String, Tree>) -> Option<Part<'t>>
-    ensures { IfSome result (λ part. IsMisfitOf part.wanted part.found) }
+    ensures misfit { IfSome result (λ part. IsMisfitOf part.wanted part.found) }
+    ensures place { IfSome result
+        (IsPart (model.Object (trees.entries_view members.now.entries))) }
 {
     for (name, field) in objects.fields.iter() {
         let found = members.get(name);
@@ -165,7 +179,8 @@ fn first_member<'t>(objects: Objects<'t>, members: &'t BTreeMap<String, Tree>) -
 /// nothing is of the shape of the whole.
 fn part_at<'t>(step: Step<'t>, shape: &'t Shape, found: Option<&'t Tree>) -> Option<Part<'t>>
     requires { IsMisfitOf (Some shape) found }
-    ensures { IfSome result (λ part. IsMisfitOf part.wanted part.found) }
+    ensures misfit { IfSome result (λ part. IsMisfitOf part.wanted part.found) }
+    ensures place { IfSome result (λ part. (part.step ≡ step.entry) × (part.found ≡ found.entry)) }
 {
     if found.is_none() && !inhabited(shape) {
         return None;
@@ -179,7 +194,9 @@ fn part_at<'t>(step: Step<'t>, shape: &'t Shape, found: Option<&'t Tree>) -> Opt
 
 /// The first field that mustn't be there.
 fn first_surplus<'t>(objects: Objects<'t>, members: &'t BTreeMap<String, Tree>) -> Option<Part<'t>>
-    ensures { IfSome result (λ part. IsMisfitOf part.wanted part.found) }
+    ensures misfit { IfSome result (λ part. IsMisfitOf part.wanted part.found) }
+    ensures place { IfSome result
+        (IsPart (model.Object (trees.entries_view members.now.entries))) }
 {
     for (name, member) in members.iter() {
         if !objects.extra && !objects.fields.contains_key(name) {
