@@ -15,6 +15,6 @@ returns-then-not-fits-clause-place c =
     let n = string_bytes c.in-Some.name.now in
     let found = c.get-found.result in
     let there : child (model.Name c.deref.result.now) (Object (entries_view es)) ≡ told found =
-        ap (λ k. child (model.Name k) (Object (entries_view es))) c.deref.ensures
-        ∙ sym (view_of_ref found ∙ ap (option_map view) c.get-found.ensures.value ∙ view-lookup n es) in
+    ap (λ k. child (model.Name k) (Object (entries_view es))) c.deref.ensures
+    ∙ sym (view_of_ref found ∙ ap (option_map view) c.get-found.ensures.value ∙ view-lookup n es) in
     part_there (Object (entries_view es)) (Name c.deref.result) found c.part_at.result there c.part_at.ensures.place
