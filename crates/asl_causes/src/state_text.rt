@@ -36,8 +36,10 @@ impl Explainer<'_> {
             return self.state_text(number);
         };
         let mut text = self.head_line(number, state)?;
-        self.push_arrivals(shapes, &mut text, number, is_behind)?;
-        if !(is_behind && self.flows.arrivals_at(number).is_empty()) {
+        if is_behind && !self.has_data_at(shapes, number) {
+            push_row(&mut text, "comes from", UNKNOWN)?;
+        } else {
+            self.push_arrivals(shapes, &mut text, number, is_behind)?;
             self.push_known(shapes, &mut text, number, name)?;
         }
         self.push_findings(&mut text, findings, name)?;
@@ -86,6 +88,16 @@ impl Explainer<'_> {
         }
     }
 
+    /// Whether data is known to come to the state of that number.
+    fn has_data_at(&self, shapes: &Shapes, number: usize) -> bool {
+        self.flows.arrivals_at(number).iter().any(|place| {
+            self.flows
+                .arrivals
+                .get(*place)
+                .is_some_and(|arrival| shapes.inhabited(arrival.shape) != Some(false))
+        })
+    }
+
     /// Puts down from where data comes to the state, each with its shape, and that more may come where a rule is broken in
     /// front.
     fn push_arrivals(
@@ -97,8 +109,7 @@ impl Explainer<'_> {
     ) -> Result<(), OutOfMemory> {
         let arrivals = self.flows.arrivals_at(number);
         if arrivals.is_empty() {
-            let origin = if is_behind { UNKNOWN } else { "nowhere" };
-            return push_row(text, "comes from", origin);
+            return push_row(text, "comes from", "nowhere");
         }
         for (place, arrival) in arrivals.iter().take(MOST_ARRIVALS).enumerate() {
             if let Some(arrival) = self.flows.arrivals.get(*arrival) {

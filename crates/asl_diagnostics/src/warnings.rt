@@ -7,7 +7,7 @@ use crate::{Rule, Severity};
 /// What is hardly meant.
 #[derive(Clone, Copy, Debug, PartialEq, Eq)]
 pub enum Warning {
-    /// Nothing leads to a state.
+    /// No way from the start leads to a state.
     UnreachableState,
     /// A way leads to a state, and no data comes along it.
     NoDataReaches,
@@ -24,7 +24,7 @@ pub enum Warning {
 const UNREACHABLE_STATE: Rule = Rule {
     id: "UnreachableState",
     severity: Severity::Warning,
-    short: "Nothing leads to this state.",
+    short: "No way from the start leads to this state.",
     full: "No run enters this state: nothing that can be reached from `StartAt`, by `Next`, `Default`, choice \
         rules and catchers, leads to it.",
     help: "Lead to the state, or remove it.",
@@ -97,7 +97,7 @@ const PATH_AS_TEXT: Rule = Rule {
 const UNKNOWN_ERROR: Rule = Rule {
     id: "UnknownError",
     severity: Severity::Warning,
-    short: "No error has this name.",
+    short: "The States Language has no error of this name.",
     full: "The States Language keeps the names that begin with `States.` for its own errors, and this is none of them. \
         Upper and lower case count.",
     help: "Correct the name, as to `States.ALL` or `States.Timeout`, or give an error of your own a name that begins \

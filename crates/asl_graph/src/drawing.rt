@@ -230,8 +230,7 @@ impl Drawer<'_> {
         name: &str,
         what: &str,
     ) -> Result<(), OutOfMemory> {
-        let title = format!(in self.alloc; "{name} ({what})")?;
-        let title = Label::on_one_line(self.alloc, &title)?;
+        let title = Label::title(self.alloc, name, what)?;
         picture.open(Cluster::State(number), self.look_of(number), &title)
     }
 

@@ -107,7 +107,7 @@ impl Flows {
         Ok(())
     }
 
-    /// The machine's input in short notation, where it is known.
+    /// The machine's input in short notation, where it is known and there is any.
     pub(crate) fn input_text(
         &self,
         alloc: Global,
@@ -116,7 +116,7 @@ impl Flows {
         noted(alloc, shapes, self.input)
     }
 
-    /// What flows from the state of that number through an exit in short notation, where it is known.
+    /// What flows from the state of that number through an exit in short notation, where anything is known to.
     pub(crate) fn text_along(
         &self,
         alloc: Global,
@@ -129,17 +129,17 @@ impl Flows {
     }
 }
 
-/// The shape of that number in short notation.
+/// The shape of that number in short notation; none where no data is of it.
 fn noted(
     alloc: Global,
     shapes: &Shapes,
     number: Option<usize>,
 ) -> Result<Option<String>, OutOfMemory> {
     match number {
-        Some(number) => {
+        Some(number) if shapes.inhabited(number) != Some(false) => {
             let text = note(alloc, shapes, number, LIMITS)?;
             Ok(Some(cut(alloc, &text, MOST)?))
         }
-        None => Ok(None),
+        Some(_) | None => Ok(None),
     }
 }

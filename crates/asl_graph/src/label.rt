@@ -44,6 +44,17 @@ impl Label {
         Ok(label)
     }
 
+    /// A name with what it is behind it, or below it where the two are too long for one line.
+    pub(crate) fn title(alloc: Global, name: &str, what: &str) -> Result<Label, OutOfMemory> {
+        let whole = format!(in alloc; "{name} ({what})")?;
+        if whole.chars().count() <= MOST {
+            return Label::on_one_line(alloc, &whole);
+        }
+        let mut label = Label::of(alloc, name)?;
+        label.push(&format!(in alloc; "({what})")?)?;
+        Ok(label)
+    }
+
     /// Puts a text below the lines, broken where it is long.
     pub(crate) fn push(&mut self, text: &str) -> Result<(), OutOfMemory> {
         let mut line = String::new(self.alloc);

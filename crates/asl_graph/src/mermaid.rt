@@ -114,12 +114,13 @@ pub(crate) fn arrow_line(
     Ok(format!(in alloc; "{from} {sign}{label} {to}")?)
 }
 
-/// The text of a label as it stands behind the sign of an arrow; nothing where the label is empty.
+/// The text of a label as it stands behind the sign of an arrow; nothing where the label is empty, since Mermaid refuses an
+/// empty text there.
 fn text_on_arrow(alloc: Global, label: &Label) -> Result<String, OutOfMemory> {
-    if label.lines().is_empty() {
-        Ok(String::new(alloc))
+    let label = label_text(alloc, label)?;
+    if label.is_empty() {
+        Ok(label)
     } else {
-        let label = label_text(alloc, label)?;
         Ok(format!(in alloc; "|\"{label}\"|")?)
     }
 }

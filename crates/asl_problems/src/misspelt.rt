@@ -43,6 +43,9 @@ const ERRORS: [&str; 17] = [
     "States.Timeout",
 ];
 
+/// What the service raises for each status of HTTP begins so.
+const HTTP_STATUS: &str = "States.Http.StatusCode.";
+
 /// A state, and all that is looked through for its slips.
 #[derive(Clone, Copy)]
 struct Around<'p, 's, 'f, 'a> {
@@ -51,9 +54,10 @@ struct Around<'p, 's, 'f, 'a> {
     state: Member,
 }
 
-/// Adds each text of a template in the definition that reads as a path or a call and stands for itself, since the name of its
-/// field doesn't end in `.$`, and each name of an error in a retrier or a catcher that begins with `States.` and is none of
-/// the language. A text that is no JSON has none. Refuses only where an allocation was refused.
+/// Adds each text of a template in the definition that would be read as a path or a call, or that goes into the context object,
+/// and stands for itself, since the name of its field doesn't end in `.$`; and each name of an error in a retrier or a catcher
+/// that begins with `States.` and is neither one of the language nor one that AWS Step Functions raises beside them. A text
+/// that is no JSON has none. Refuses only where an allocation was refused.
 pub fn add_misspelt(
     alloc: Global,
     problems: &mut Vec<Problem>,
@@ -253,5 +257,7 @@ fn reads_as_path(alloc: Global, text: &str) -> Result<bool, OutOfMemory> {
 
 /// Whether the name of an error begins as those of the language, and is none of them.
 fn is_unknown(name: &str) -> bool {
-    name.starts_with(RESERVED) && !ERRORS.iter().any(|known| *known == name)
+    name.starts_with(RESERVED)
+        && !name.starts_with(HTTP_STATUS)
+        && !ERRORS.iter().any(|known| *known == name)
 }

@@ -30,7 +30,7 @@ impl Notice<'_> {
 /// The words on what is odd, before its reason.
 fn subject(alloc: Global, warning: Warning, index: Option<usize>) -> Result<String, OutOfMemory> {
     match warning {
-        Warning::UnreachableState => Ok(String::from_str(alloc, "nothing leads to")?),
+        Warning::UnreachableState => Ok(String::from_str(alloc, "no way from the start leads to")?),
         Warning::NoDataReaches => Ok(String::from_str(alloc, "no data reaches")?),
         Warning::CatcherNeverTaken => numbered(alloc, "catcher", index, "is never taken"),
         Warning::RetrierNeverTaken => numbered(alloc, "retrier", index, "is never taken"),
