@@ -5,6 +5,7 @@ use crate::flows::Explainer;
 use asl_flow::{TemplateShapeRefusal, template_shape_at};
 use asl_intrinsic::{Arg, Call};
 use asl_numbered::Shapes;
+use asl_path::{RefPath, print};
 use asl_phrases::push_line;
 use asl_states::{Kind, State};
 use asl_template::Template;
@@ -43,7 +44,8 @@ struct Functions {
 }
 
 impl<'m> Explainer<'m> {
-    /// Puts down in which fields the calls stand that may have no value.
+    /// Puts down in which fields the calls stand that may have no value, and the paths among their arguments that may name
+    /// nothing.
     pub(crate) fn push_doubtful_calls(
         &self,
         shapes: &mut Shapes,
@@ -56,7 +58,53 @@ impl<'m> Explainer<'m> {
         if names.is_empty() {
             return Ok(());
         }
-        push_line(text, "Where it is called: ", &names)
+        push_line(text, "Where it is called: ", &names)?;
+        match self.source_of(shapes, cause, field)? {
+            Some(source) => self.push_missing_among(shapes, text, &calls, source),
+            None => Ok(()),
+        }
+    }
+
+    /// Puts down the paths among the arguments of these calls that may name nothing in an input of that number, if there are
+    /// some.
+    fn push_missing_among(
+        &self,
+        shapes: &mut Shapes,
+        text: &mut String,
+        calls: &[Called],
+        source: usize,
+    ) -> Result<(), OutOfMemory> {
+        let mut paths = Vec::new(self.alloc);
+        for called in calls {
+            push_paths(&mut paths, called.call)?;
+        }
+        let missing = self.missing_among(shapes, &paths, source)?;
+        if missing.is_empty() {
+            return Ok(());
+        }
+        push_line(text, "What may name nothing: ", &missing)
+    }
+
+    /// Those of the paths that may name nothing in an input of that number, each as often as it stands there.
+    fn missing_among(
+        &self,
+        shapes: &mut Shapes,
+        paths: &[&RefPath],
+        source: usize,
+    ) -> Result<String, OutOfMemory> {
+        let mut text = String::new(self.alloc);
+        if shapes.inhabited(source) != Some(true) {
+            return Ok(text);
+        }
+        for path in paths {
+            if self.named_in(shapes, source, path)?.is_none() {
+                if !text.is_empty() {
+                    text.push_str(", ")?;
+                }
+                text.push_str(&print(self.alloc, path)?)?;
+            }
+        }
+        Ok(text)
     }
 
     /// What helps against calls that may have no value: what the functions need.
@@ -245,6 +293,32 @@ fn note_arguments(functions: &mut Functions, arguments: &[Arg]) {
             note_call(functions, call);
         }
     }
+}
+
+/// Adds the paths among the arguments of a call, and of the calls among these.
+#[cycle(paths)]
+fn push_paths<'t>(paths: &mut Vec<&'t RefPath>, call: &'t Call) -> Result<(), OutOfMemory> {
+    match call {
+        Call::Array(arguments) | Call::ArrayLength(arguments) | Call::Format(arguments) => {
+            push_paths_among(paths, arguments)
+        }
+    }
+}
+
+/// Adds those among arguments.
+#[cycle(paths)]
+fn push_paths_among<'t>(
+    paths: &mut Vec<&'t RefPath>,
+    arguments: &'t [Arg],
+) -> Result<(), OutOfMemory> {
+    for argument in arguments {
+        match argument {
+            Arg::Path(path) => paths.push(path)?,
+            Arg::Call(call) => push_paths(paths, call)?,
+            _ => {}
+        }
+    }
+    Ok(())
 }
 
 /// The names of the fields of calls as a definition spells them, each once where it stands several times in a row.

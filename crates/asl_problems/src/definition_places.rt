@@ -3,11 +3,14 @@ use crate::found::At;
 use crate::problems::{Kind, Problem};
 use crate::scopes::{Scoped, Text};
 use asl_check::{FindingFault, MissingPath};
-use asl_faults::{Index, Paths, refusal_of, text_at, text_from};
+use asl_faults::{Index, Paths, SUFFIX, refusal_of, text_at, text_from, values_within};
 use asl_places::{Member, Places, Spot, States};
 use asl_tree::OutOfMemory;
 use std::alloc::Global;
 use std::collections::BTreeMap;
+
+/// A call begins so.
+const CALLED: &str = "States.";
 
 /// A definition in which places are found.
 #[derive(Drop)]
@@ -21,6 +24,8 @@ pub(crate) struct DefinitionPlaces<'p, 's, 'f, 'a> {
     pub(crate) scoped: &'p BTreeMap<&'a str, Vec<Scoped>>,
     /// The paths in the values of fields in which problems tell some, by the token with which such a value begins.
     pub(crate) paths: &'p BTreeMap<usize, Paths>,
+    /// The only calls in the values of fields in which problems tell that one may have no value, by the same tokens.
+    pub(crate) calls: &'p BTreeMap<usize, Spot>,
 }
 
 impl<'s, 't, 'a> DefinitionPlaces<'_, 's, 't, 'a> {
@@ -53,6 +58,7 @@ impl<'s, 't, 'a> DefinitionPlaces<'_, 's, 't, 'a> {
         };
         match &problem.kind {
             Kind::Finding(FindingFault::StartInput, _) => self.in_machine(field),
+            Kind::Finding(FindingFault::IntrinsicMayFail, _) => self.of_call(name, field),
             Kind::Finding(_, path) => self.of_finding(name, field, path),
             Kind::Odd { index, .. } => self.of_element(name, field, *index),
             _ => self.index.root(),
@@ -101,6 +107,12 @@ impl<'s, 't, 'a> DefinitionPlaces<'_, 's, 't, 'a> {
         }
     }
 
+    /// Where it is told that a call may have no value: at the only call in the field's value, or at the value.
+    fn of_call(&self, name: &str, field: Option<&str>) -> Spot {
+        let whole = self.of_finding(name, field, &None);
+        self.calls.get(&whole.token).copied().unwrap_or(whole)
+    }
+
     /// The field's name as the state spells it: a Map may have the older one.
     fn spelled<'f>(&self, state: Member, field: &'f str) -> &'f str {
         if self.index.member(state.value, field).is_some() {
@@ -135,6 +147,48 @@ impl<'s, 't, 'a> DefinitionPlaces<'_, 's, 't, 'a> {
         match &problem.kind {
             Kind::Finding(_, Some(_)) => self.value_of(problem),
             _ => None,
+        }
+    }
+
+    /// The field's value in which the only call is looked for, if a problem tells that one may have no value.
+    pub(crate) fn value_with_call(&self, problem: &Problem) -> Option<Spot> {
+        match &problem.kind {
+            Kind::Finding(FindingFault::IntrinsicMayFail, _) => self.value_of(problem),
+            _ => None,
+        }
+    }
+
+    /// The only text of a template that is a call; none where there are several.
+    pub(crate) fn only_call_in(&self, template: Spot) -> Result<Option<Spot>, OutOfMemory> {
+        let outline = self.index.outline();
+        let mut calls = Vec::new(self.alloc);
+        for object in &values_within(self.alloc, outline, self.text.len(), template)? {
+            self.push_calls_of(*object, &mut calls)?;
+        }
+        match calls.as_slice() {
+            [call] => Ok(Some(*call)),
+            _ => Ok(None),
+        }
+    }
+
+    /// Adds the texts of an object's own members that are calls.
+    fn push_calls_of(&self, object: Spot, calls: &mut Vec<Spot>) -> Result<(), OutOfMemory> {
+        let Some(mut members) = self.index.outline().members(object) else {
+            return Ok(());
+        };
+        while let Some((name, member)) = members.next() {
+            if name.ends_with(SUFFIX) && self.is_call(member.value)? {
+                calls.push(member.value)?;
+            }
+        }
+        Ok(())
+    }
+
+    /// Whether the value is a text that is a call.
+    fn is_call(&self, value: Spot) -> Result<bool, OutOfMemory> {
+        match self.said_at(value)? {
+            Some(said) => Ok(said.starts_with(CALLED)),
+            None => Ok(false),
         }
     }
 

@@ -14,7 +14,7 @@ use crate::sources::Outlined;
 use asl_breaks::{break_of, first_fraction};
 use asl_diagnostics::Diagnostic;
 use asl_faults::{Index, Paths};
-use asl_places::{Places, States};
+use asl_places::{Places, Spot, States};
 use asl_tree::OutOfMemory;
 use json::Scratch;
 use std::alloc::Global;
@@ -45,9 +45,11 @@ pub fn diagnostics_of<'f>(
         states: &states,
         scoped: BTreeMap::new(alloc),
         paths: BTreeMap::new(alloc),
+        calls: BTreeMap::new(alloc),
     };
     subject.scoped = scoped_of(alloc, &subject, &problems)?;
     subject.paths = paths_of(alloc, &subject, &problems)?;
+    subject.calls = calls_of(alloc, &subject, &problems)?;
     tell_in(alloc, &subject, declared, problems)
 }
 
@@ -64,6 +66,8 @@ struct Subject<'s, 'f, 'a> {
     scoped: BTreeMap<&'a str, Vec<Scoped>>,
     /// The paths in the values of fields in which problems tell some, by the token with which such a value begins.
     paths: BTreeMap<usize, Paths>,
+    /// The only calls in the values of fields in which problems tell that one may have no value, by the same tokens.
+    calls: BTreeMap<usize, Spot>,
 }
 
 impl<'s, 'f, 'a> Subject<'s, 'f, 'a> {
@@ -71,7 +75,7 @@ impl<'s, 'f, 'a> Subject<'s, 'f, 'a> {
     fn definition<'p>(&'p self, alloc: Global) -> Option<DefinitionPlaces<'p, 's, 'f, 'a>> {
         let text = self.file.text;
         let places = &self.places;
-        let (scoped, paths) = (&self.scoped, &self.paths);
+        let (scoped, paths, calls) = (&self.scoped, &self.paths, &self.calls);
         match (&self.index, self.states) {
             (Some(index), Some(states)) => Some(DefinitionPlaces {
                 alloc,
@@ -81,6 +85,7 @@ impl<'s, 'f, 'a> Subject<'s, 'f, 'a> {
                 states,
                 scoped,
                 paths,
+                calls,
             }),
             _ => None,
         }
@@ -110,6 +115,7 @@ fn tell_in(
         states: &None,
         scoped: BTreeMap::new(alloc),
         paths: BTreeMap::new(alloc),
+        calls: BTreeMap::new(alloc),
     };
     tell_each(alloc, definition, &subject, problems)
 }
@@ -180,6 +186,26 @@ fn paths_of(
         }
     }
     Ok(paths)
+}
+
+/// The only calls in the values of the definition's fields in which problems tell that one may have no value.
+fn calls_of(
+    alloc: Global,
+    definition: &Subject<'_, '_, '_>,
+    problems: &[Problem],
+) -> Result<BTreeMap<usize, Spot>, OutOfMemory> {
+    let mut calls = BTreeMap::new(alloc);
+    let Some(places) = definition.definition(alloc) else {
+        return Ok(calls);
+    };
+    for problem in problems {
+        if let Some(value) = places.value_with_call(problem) {
+            if let Some(call) = places.only_call_in(value)? {
+                calls.insert(value.token, call)?;
+            }
+        }
+    }
+    Ok(calls)
 }
 
 /// The problems as diagnostics, in their order, with what is found in both texts.
