@@ -45,7 +45,8 @@ Each form is a kind of text in growing sizes; the names of all forms, or those t
   of shapes as levels and put the shapes into the table, a sixth takes the tokens, and a twelfth makes the trees of the
   keywords other than properties;
 - read-declared: declared shapes of so many megabytes, beside a small definition, which are read and checked: the input is an
-  object, each field of which is an object of 20 fields.
+  object, each field of which is an object of 20 fields. Three fifths of the instructions read them into a table, a seventh
+  makes shapes of the numbers, and a fifth puts these into the checker's table.
 
 An object takes a leaf of the kit's ordered map, 848 bytes, however few its fields, and these leaves are most of what a run
 takes: at the peak of run-parallel two thirds, in the JSON value of the definition; of run-map three quarters, of the items that
